@@ -1,0 +1,12 @@
+pub mod Primes
+pub mod Table
+pub mod Toggle
+pub mod Sums
+pub mod Walk
+pub mod Rows
+pub mod Lost
+pub mod Only
+pub mod Exists
+pub mod Hidden
+pub mod Inverse
+pub mod Rebuild

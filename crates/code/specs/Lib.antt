@@ -1,0 +1,9 @@
+pub mod Faults
+pub mod Marks
+pub mod Sizes
+pub mod Places
+pub mod Group
+pub mod Rules
+pub mod Rebuilt
+pub mod Bytes
+pub mod Bits
