@@ -4,6 +4,7 @@ pub mod Toggle
 pub mod Sums
 pub mod Walk
 pub mod Rows
+pub mod Diagonals
 pub mod Lost
 pub mod Only
 pub mod Exists
