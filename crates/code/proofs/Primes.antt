@@ -7,7 +7,7 @@ use Prim.Native.Nat.{ℕ, zero, suc, _%_, _≤_, _<_}
 use native.Mathlib.Nat.{not-suc-le-zero, le-step, le-refl}
 use native.Mathlib.Omega.{arith}
 use lib.Dec.{eqb, ltb, leb}
-use Rattle.std.proofs.shelf.Tests.{cases-eq, both-ways, eqb-true, ltb-true, leb-true, and-parts, and-from, or-cases, or-left, or-right, lt-ltb, eq-eqb, ne-eqb, not-from-true, not-from-false, not-true, cases-lt}
+use Rattle.std.proofs.shelf.Tests.{cases-eq, both-ways, eqb-true, ltb-true, leb-true, and-parts, and-from, or-cases, or-left, or-right, lt-ltb, eq-eqb, ne-eqb, not-from-true, not-from-false, not-true, cases-lt, cases-bool}
 use Rattle.std.proofs.shelf.Ways.{tells}
 use Rattle.code.specs.Sizes.{Prime, OddPrime, sizes, among}
 
@@ -87,3 +87,7 @@ prime-listed n p =
       | inl e ↦ e
       | inr e ↦ absurd (both-ways (tested n) (not-true (tested n) e) (prime-tested n p))
     ]
+
+-- a number that is no odd prime up to 31 is not listed
+pub unlisted : (n : ℕ) → (OddPrime n → ⊥) → among n sizes ≡ false
+unlisted n p = elim (cases-bool (among n sizes)) [ inl e ↦ absurd (p (listed-prime n e)) | inr e ↦ e ]

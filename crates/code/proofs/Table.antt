@@ -10,6 +10,7 @@ use lib.Dec.{eqb, leb, ltb}
 use lib.ListN.{length, getD}
 use Rattle.std.proofs.shelf.Tests.{and-parts, eqb-true, leb-true, ltb-true, cases-lt, cases-order}
 use Rattle.code.specs.Places.{pair-place, PairAt}
+use Rattle.code.specs.Sizes.{pairs}
 use Rattle.code.specs.declared.places.Pair.{Pair}
 
 -- a test that passes at each entry of a list and its place, counted from i
@@ -125,3 +126,16 @@ table-at k d l =
           only = λ a b e. same-place (max a b) (min a b) (x .larger) (x .smaller) (omega arith) order
               (sym (place-triangle a b) ∙ e ∙ sym placed ∙ place-le (x .larger) (x .smaller) order);
         }
+
+-- the places of n stations are those below n (n + 1) / 2
+pub place-below : (n a b : ℕ) → a < n → b < n → pair-place a b < pairs n
+unfolding triangle
+place-below n a b la lb =
+    let m : max a b < n = omega arith in
+    let l : min a b ≤ max a b = omega arith in
+    omega (arith, place-triangle a b, triangle-suc (max a b), triangle-mono (suc (max a b)) n m)
+
+-- two pairs at one place are one pair
+pub place-only : (a b c d : ℕ) → pair-place a b ≡ pair-place c d → (max a b ≡ max c d) × (min a b ≡ min c d)
+place-only a b c d e =
+    same-place (max a b) (min a b) (max c d) (min c d) (omega arith) (omega arith) (sym (place-triangle a b) ∙ e ∙ place-triangle c d)

@@ -1,2 +1,4 @@
 pub mod Meaning
 pub mod Audits
+pub mod Images
+pub mod Reports

@@ -1,13 +1,12 @@
 -- What a store means, and what its calls answer.
-use mathlib.Core.Path.{_≡_}
 use mathlib.Core.Bool.{Bool, true, false, cond, _||_}
-use mathlib.Core.Logic.{_⊎_}
-use Prim.Native.Nat.{ℕ, zero, suc, _<_, max, min}
-use lib.Dec.{eqb, leb}
+use Prim.Native.Nat.{ℕ, zero, suc, max, min}
+use lib.Dec.{leb}
 use Rattle.std.specs.declared.option.Option.{Option}
 use Rattle.std.specs.declared.option.Option.the-variants.{Some, None}
 use Rattle.std.specs.declared.result.Result.{Result}
 use Rattle.std.specs.declared.result.Result.the-variants.{Ok, Err}
+use Rattle.code.specs.Marks.{marked}
 use Rattle.code.specs.Rules.{Blocks, of}
 use Rattle.code.specs.declared.faults.Fault.{Fault}
 use Rattle.code.specs.declared.faults.Fault.the-variants.{NoSuchStation, StationOut}
@@ -18,21 +17,24 @@ pub record Meaning (B : Type 0) : Type 0 where
   pub out : ℕ → Bool
   pub block : Blocks B
 
--- the stations given are below the size, or the first that is not
-abbrev pub known : {B : Type 0} → Meaning B → ℕ → Result (Unit {0}) Fault
-known m s = cond (leb (m .size) s) (Err (NoSuchStation s)) (Ok tt)
+-- out, or in a set of other stations
+abbrev pub absent-of : {B : Type 0} → Meaning B → ℕ → ℕ → Bool
+absent-of m also s = m .out s || marked also s
 
 -- is s in?
 abbrev pub in-answer : {B : Type 0} → Meaning B → ℕ → Result Bool Fault
 in-answer m s = cond (leb (m .size) s) (Err (NoSuchStation s)) (Ok (cond (m .out s) false true))
 
 -- may the pair of a and b be got or put? The first number of n or more, then the smaller station that is out
+abbrev pub pair-answer : ℕ → (ℕ → Bool) → ℕ → ℕ → Result (Unit {0}) Fault
+pair-answer n out a b =
+    cond (leb n a) (Err (NoSuchStation a))
+    (cond (leb n b) (Err (NoSuchStation b))
+    (cond (out (min a b)) (Err (StationOut (min a b)))
+    (cond (out (max a b)) (Err (StationOut (max a b))) (Ok tt))))
+
 abbrev pub get-answer : {B : Type 0} → Meaning B → ℕ → ℕ → Result (Unit {0}) Fault
-get-answer m a b =
-    cond (leb (m .size) a) (Err (NoSuchStation a))
-    (cond (leb (m .size) b) (Err (NoSuchStation b))
-    (cond (m .out (min a b)) (Err (StationOut (min a b)))
-    (cond (m .out (max a b)) (Err (StationOut (max a b))) (Ok tt))))
+get-answer m a b = pair-answer (m .size) (m .out) a b
 
 -- the smallest number below n that passes
 abbrev pub first : (ℕ → Bool) → ℕ → Option ℕ

@@ -1,0 +1,3 @@
+pub mod First
+pub mod Gets
+pub mod ImageBytes

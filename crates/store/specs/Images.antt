@@ -1,0 +1,73 @@
+-- The bytes of an image: a header of ten bytes, then the blocks of all pairs in place order.
+--   0      the version, 1
+--   1 to 4 the length of what follows, 5 + 64 N, big-endian
+--   5      the size n
+--   6 to 9 the marks, big-endian: the bit of weight 2^s is set where station s is out
+--   10 on  N blocks of 64 bytes
+use mathlib.Core.Path.{_≡_, refl, ap}
+use mathlib.Core.Bool.{Bool, cond, _&&_}
+use mathlib.Core.List.{List, [], _∷_}
+use Prim.Native.Nat.{ℕ, zero, suc, _+_, _*_, _/_, _^_}
+use lib.Dec.{eqb, ltb}
+use lib.ListN.{length, getD}
+use Rattle.std.specs.declared.result.Result.{Result}
+use Rattle.std.specs.declared.result.Result.the-variants.{Ok, Err}
+use Rattle.code.specs.Marks.{marked}
+use Rattle.code.specs.Places.{pair-place}
+use Rattle.code.specs.Sizes.{among, sizes, pairs}
+use Rattle.code.specs.declared.blocks.Block.{Block}
+use Rattle.code.specs.declared.faults.Fault.{Fault}
+use Rattle.code.specs.declared.faults.Fault.the-variants.{NotASize, WrongLength, WrongVersion, StrayMarks}
+use Rattle.store.specs.Meaning.{Meaning}
+
+-- four bytes from k on, big-endian
+abbrev pub big-endian : List ℕ → ℕ → ℕ
+big-endian bs k = getD bs k 0 * 16777216 + getD bs (k + 1) 0 * 65536 + getD bs (k + 2) 0 * 256 + getD bs (k + 3) 0
+
+abbrev pub image-version : List ℕ → ℕ
+image-version bs = getD bs 0 0
+
+abbrev pub image-size : List ℕ → ℕ
+image-size bs = getD bs 5 0
+
+abbrev pub image-marks : List ℕ → ℕ
+image-marks bs = big-endian bs 6
+
+-- the first check that fails: ten bytes, the version, the size, both lengths, the marks of stations n and above
+abbrev pub image-check : List ℕ → Result (Unit {0}) Fault
+image-check bs =
+    cond (ltb (length bs) 10) (Err (WrongLength (length bs)))
+    (cond (eqb (image-version bs) 1)
+    (cond (among (image-size bs) sizes)
+    (cond (eqb (big-endian bs 1) (5 + 64 * pairs (image-size bs)) && eqb (length bs) (10 + 64 * pairs (image-size bs)))
+    (cond (eqb (image-marks bs / 2 ^ image-size bs) 0) (Ok tt)
+    (Err StrayMarks))
+    (Err (WrongLength (length bs))))
+    (Err (NotASize (image-size bs))))
+    (Err (WrongVersion 0)))
+
+-- k bytes from i on, 0 where there is none
+unfoldable pub part : List ℕ → ℕ → ℕ → List ℕ
+part bs i zero = []
+part bs i (suc k) = getD bs i 0 ∷ part bs (suc i) k
+
+pub length-part : (bs : List ℕ) (i k : ℕ) → length (part bs i k) ≡ k
+unfolding part
+length-part bs i zero = refl
+length-part bs i (suc k) = ap suc (length-part bs (suc i) k)
+
+-- where the block of a pair begins
+abbrev pub block-offset : ℕ → ℕ → ℕ
+block-offset a b = 10 + 64 * pair-place a b
+
+-- the 64 bytes from i on as a block
+abbrev pub block-at : List ℕ → ℕ → Block
+block-at bs i = record { bytes = part bs i 64; long = length-part bs i 64 }
+
+-- what the bytes of an image mean
+abbrev pub image-meaning : List ℕ → Meaning Block
+image-meaning bs = record {
+  size = image-size bs;
+  out = marked (image-marks bs);
+  block = λ a b. block-at bs (block-offset a b);
+}
