@@ -1,6 +1,8 @@
 -- What each refusal says on a fault slip: its number, the layer in which it began, and its place.
+use mathlib.Core.Bool.{Bool, _&&_}
 use mathlib.Core.List.{List, [], _∷_, _++_}
 use Prim.Native.Nat.{ℕ}
+use lib.Dec.{eqb}
 use Rattle.std.specs.Written.{decimal}
 use Rattle.code.specs.declared.faults.Fault.{Fault}
 use Rattle.code.specs.declared.faults.Fault.the-variants.{NotASize, OutAtOpen, AreaTooShort, NoSuchStation, CheckPair, AlreadyAbsent, AlreadyOut, NotOut, AlreadyIn, FillingUnderWay, TooManyAbsent, TicketRefused, StationOut, AbsentAtAudit, WrongLength, WrongVersion, StrayMarks, CutShort, UnknownLetter, WrongRecordLength, SessionTooLong}
@@ -56,3 +58,7 @@ letter-of Store = 115
 -- NUMBER LAYER PLACE, with single spaces
 abbrev pub written : Fault → List ℕ
 written f = decimal (number-of f) ++ (32 ∷ letter-of (layer-of f) ∷ 32 ∷ decimal (place-of f))
+
+-- they have the same number, layer and place
+abbrev pub sameFault : Fault → Fault → Bool
+sameFault f g = eqb (number-of f) (number-of g) && eqb (letter-of (layer-of f)) (letter-of (layer-of g)) && eqb (place-of f) (place-of g)

@@ -1,11 +1,11 @@
 // Refusals. Each case has a number, the layer it began in and a place; upper layers pass a fault on whole.
 ghost use mathlib.Core.Path.{_≡_};
-ghost use Rattle.code.specs.Faults.{number-of, layer-of, place-of, letter-of, written};
+ghost use Rattle.code.specs.Faults.{number-of, layer-of, place-of, letter-of, sameFault, written};
 ghost use Rattle.std.specs.declared.option.Option.the-variants.{Some};
 use std::fmt;
 
 // The layer in which a fault began.
-#[derive(Clone, Copy, Debug, PartialEq, Eq)]
+#[derive(Clone, Copy)]
 pub enum Layer {
     Record,
     Book,
@@ -26,7 +26,7 @@ impl Layer {
 }
 
 // One case for each refusal; where one number comes from two layers, there are two cases.
-#[derive(Clone, Copy, Debug, PartialEq, Eq)]
+#[derive(Clone, Copy)]
 pub enum Fault {
     // 1 b: the number is not a size
     NotASize(u8),
@@ -158,5 +158,22 @@ pub impl fmt::Display for Fault as FaultDisplay {
         let letter = self.layer().letter();
         let place = self.place();
         write!(f, "{number} {letter} {place}")
+    }
+}
+
+pub impl fmt::Debug for Fault as FaultDebug {
+    fn fmt<W: fmt::Write>(&self, f: &mut fmt::Formatter<W>) -> fmt::Result {
+        fmt::Display::fmt(self, f)
+    }
+}
+
+// Faults are the same where they say the same.
+pub impl PartialEq<Fault> for Fault as FaultPartialEq {
+    ghost equals = { λ f g r. r ≡ sameFault f g };
+
+    fn eq(&self, other: &Fault) -> bool {
+        self.number() == other.number()
+            && self.layer().letter() == other.layer().letter()
+            && self.place() == other.place()
     }
 }
