@@ -1,4 +1,2 @@
 pub mod Meaning
-pub mod Audits
 pub mod Images
-pub mod Reports

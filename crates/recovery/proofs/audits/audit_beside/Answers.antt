@@ -1,9 +1,9 @@
 use mathlib.Core.Path.{sym}
 use Rattle.std.proofs.shelf.Tests.{or-parts}
 use Rattle.code.specs.Marks.{marked}
 use Rattle.store.specs.Meaning.{absent-of}
-use Rattle.store.proofs.First.{first-none}
-use Rattle.store.proofs.audits.audit_beside.Needs as need
+use Rattle.recovery.proofs.First.{first-none}
+use Rattle.recovery.proofs.audits.audit_beside.Needs as need
 
 pub first-broken-requires : need.first-broken-requires
 first-broken-requires g c κs s l =

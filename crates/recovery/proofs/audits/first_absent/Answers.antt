@@ -4,9 +4,9 @@ use Prim.Native.Nat.{_<_}
 use native.Mathlib.Omega.{arith}
 use lib.Dec.{ltb}
 use Rattle.std.proofs.shelf.Tests.{lt-ltb}
 use Rattle.store.specs.Meaning.{absent-of, first}
-use Rattle.store.proofs.First.{first-skip, first-hit}
-use Rattle.store.proofs.audits.first_absent.Needs as need
+use Rattle.recovery.proofs.First.{first-skip, first-hit}
+use Rattle.recovery.proofs.audits.first_absent.Needs as need
 
 pub loop-s-again : need.loop-s-again
 loop-s-again g c =

@@ -10,9 +10,9 @@ use Rattle.code.specs.Rules.{of, neighbourhood, diagonal}
 use Rattle.code.proofs.Sums.{sum-more, cond-eq, cond-ne}
 use Rattle.code.proofs.Rows.{of-le}
 use Rattle.code.proofs.Diagonals.{share, mate, mate-below, diagonal-shares}
 use Rattle.store.proofs.Gets.{got}
-use Rattle.store.proofs.audits.first_broken.Needs as need
-use Rattle.store.proofs.audits.first_broken.Needs.{then-k-h, else-k-h, then-b-a, else-b-a}
+use Rattle.recovery.proofs.audits.first_broken.Needs as need
+use Rattle.recovery.proofs.audits.first_broken.Needs.{then-k-h, else-k-h, then-b-a, else-b-a}
 
 pub loop-k-again : need.loop-k-again
 loop-k-again g c =

@@ -8,8 +8,8 @@ use lib.Dec.{ltb}
 use Rattle.std.specs.Written.{decimal}
 use Rattle.std.proofs.shelf.Results.{made-from-err}
 use Rattle.std.proofs.shelf.Tests.{lt-ltb}
-use Rattle.store.specs.Reports.{listed}
-use Rattle.store.proofs.reports.out_stations.Needs as need
+use Rattle.recovery.specs.Reports.{listed}
+use Rattle.recovery.proofs.reports.out_stations.Needs as need
 
 pub loop-s-again : need.loop-s-again
 loop-s-again g c =

@@ -11,11 +11,11 @@ use Rattle.code.specs.Bytes.{byte-group}
 use Rattle.code.specs.Faults.{written}
 use Rattle.code.specs.Group.{Group}
 use Rattle.code.specs.declared.faults.Fault.{Fault}
-use Rattle.store.specs.Audits.{Audited}
+use Rattle.recovery.specs.Audits.{Audited}
 use Rattle.store.specs.Images.{image-check, image-meaning}
 use Rattle.store.specs.Meaning.{Meaning}
-use Rattle.store.specs.declared.audits.Verdict.{Verdict}
-use Rattle.store.specs.declared.audits.Verdict.the-variants.{Sound, BrokenNeighbourhood, BrokenDiagonal}
+use Rattle.recovery.specs.declared.audits.Verdict.{Verdict}
+use Rattle.recovery.specs.declared.audits.Verdict.the-variants.{Sound, BrokenNeighbourhood, BrokenDiagonal}
 
 -- "sound", or "broken" with S for a neighbourhood or D for a diagonal, and the rule's number
 abbrev pub verdict-text : Verdict → List ℕ

@@ -7,11 +7,11 @@ use Rattle.std.specs.declared.result.Result.the-variants.{Ok, Err}
 use Rattle.code.specs.Group.{Group}
 use Rattle.code.specs.Rules.{Blocks}
 use Rattle.code.specs.declared.faults.Fault.{Fault}
-use Rattle.store.specs.Audits.{Audited}
+use Rattle.recovery.specs.Audits.{Audited}
 use Rattle.store.specs.Meaning.{absent-of, first}
-use Rattle.store.specs.declared.audits.Verdict.{Verdict}
-use Rattle.store.proofs.First.{first-cong}
-use Rattle.store.proofs.audits.audit.Needs as need
+use Rattle.recovery.specs.declared.audits.Verdict.{Verdict}
+use Rattle.recovery.proofs.First.{first-cong}
+use Rattle.recovery.proofs.audits.audit.Needs as need
 
 -- an audit depends on which stations below n are absent
 audited-cong : {B : Type 0} (G : Group B) (n : ℕ) (absent absent′ : ℕ → Bool) (f : Blocks B) (r : Result Verdict Fault) → first absent′ n ≡ first absent n → Audited G n absent f r → Audited G n absent′ f r

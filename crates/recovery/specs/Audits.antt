@@ -10,9 +10,9 @@ use Rattle.code.specs.Group.{Group}
 use Rattle.code.specs.Rules.{Blocks, neighbourhood, diagonal, Codeword}
 use Rattle.code.specs.declared.faults.Fault.{Fault}
 use Rattle.code.specs.declared.faults.Fault.the-variants.{AbsentAtAudit}
 use Rattle.store.specs.Meaning.{first}
-use Rattle.store.specs.declared.audits.Verdict.{Verdict}
-use Rattle.store.specs.declared.audits.Verdict.the-variants.{Sound, BrokenNeighbourhood, BrokenDiagonal}
+use Rattle.recovery.specs.declared.audits.Verdict.{Verdict}
+use Rattle.recovery.specs.declared.audits.Verdict.the-variants.{Sound, BrokenNeighbourhood, BrokenDiagonal}
 
 -- the sum of rule k is not none, and each rule before it comes to none
 pub record FirstBroken {B : Type 0} (none : B) (rule : ℕ → B) (k : ℕ) : Type 0 where

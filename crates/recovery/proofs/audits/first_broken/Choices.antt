@@ -5,7 +5,7 @@ use lib.Dec.{eqb}
 use Rattle.code.specs.Group.{sumTo}
 use Rattle.code.specs.Rules.{of, neighbourhood, diagonal}
 use Rattle.code.proofs.Diagonals.{share}
-use Rattle.store.proofs.audits.first_broken.Given as given
+use Rattle.recovery.proofs.audits.first_broken.Given as given
 
 -- the sum so far of neighbourhood h
 abbrev pub Inv-loop-k : given.InvT-loop-k

@@ -1,0 +1,2 @@
+pub mod Audits
+pub mod Reports
