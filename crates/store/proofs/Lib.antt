@@ -1,2 +1,3 @@
 pub mod Gets
 pub mod ImageBytes
+pub mod TableRows
