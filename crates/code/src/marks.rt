@@ -1,7 +1,7 @@
 // A set of stations as marks: station s is in the set where the bit of weight 2^s is set.
 ghost use mathlib.Core.Bool.{false};
 ghost use mathlib.Core.Path.{_≡_};
-ghost use Prim.Native.Nat.{ℕ, _^_, _<_, _≤_};
+ghost use Prim.Native.Nat.{ℕ, _/_, _^_, _<_, _≤_};
 
 ghost use Rattle.code.specs.Marks.{marked, Marked};
 
@@ -41,6 +41,7 @@ impl Marks {
     pub fn with(self, s: u8, on: bool) -> Self
         ensures marks { λ r. ⌜ (s < 32 → Marked (self .bits) s on (r .bits)) ⌝ }
         ensures same { λ r. ⌜ (32 ≤ s → r ≡ self) ⌝ }
+        ensures low { λ r. ⌜ ((n : ℕ) → s < n → self .bits / 2 ^ n ≡ 0 → r .bits / 2 ^ n ≡ 0) ⌝ }
     {
         if s >= 32 || self.has(s) == on {
             return self;

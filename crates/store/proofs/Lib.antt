@@ -1,3 +1,4 @@
 pub mod Gets
 pub mod ImageBytes
 pub mod TableRows
+pub mod ImageWrites

@@ -5,20 +5,21 @@
 --   6 to 9 the marks, big-endian: the bit of weight 2^s is set where station s is out
 --   10 on  N blocks of 64 bytes
 use mathlib.Core.Path.{_≡_, refl, ap}
-use mathlib.Core.Bool.{Bool, cond, _&&_}
+use mathlib.Core.Bool.{true, false, cond, _&&_}
 use mathlib.Core.List.{List, [], _∷_}
-use Prim.Native.Nat.{ℕ, zero, suc, _+_, _*_, _/_, _^_}
+use mathlib.Core.Logic.{_≢_, _⊎_}
+use Prim.Native.Nat.{ℕ, zero, suc, _+_, _*_, _/_, _^_, _<_, _≤_}
 use lib.Dec.{eqb, ltb}
 use lib.ListN.{length, getD}
 use Rattle.std.specs.declared.result.Result.{Result}
 use Rattle.std.specs.declared.result.Result.the-variants.{Ok, Err}
-use Rattle.code.specs.Marks.{marked}
+use Rattle.code.specs.Marks.{marked, Marked}
 use Rattle.code.specs.Places.{pair-place}
 use Rattle.code.specs.Sizes.{among, sizes, pairs}
 use Rattle.code.specs.declared.blocks.Block.{Block}
 use Rattle.code.specs.declared.faults.Fault.{Fault}
 use Rattle.code.specs.declared.faults.Fault.the-variants.{NotASize, WrongLength, WrongVersion, StrayMarks}
-use Rattle.store.specs.Meaning.{Meaning}
+use Rattle.store.specs.Meaning.{Meaning, After, get-answer, take-out-answer, bring-in-answer}
 
 -- four bytes from k on, big-endian
 abbrev pub big-endian : List ℕ → ℕ → ℕ
@@ -71,3 +72,43 @@ image-meaning bs = record {
   out = marked (image-marks bs);
   block = λ a b. block-at bs (block-offset a b);
 }
+
+-- bs′ is bs with the bytes xs from an offset on
+pub record Overwritten (bs : List ℕ) (at : ℕ) (xs bs′ : List ℕ) : Type 0 where
+  pub long : length bs′ ≡ length bs
+  pub inside : (j : ℕ) → j < length xs → getD bs′ (at + j) 0 ≡ getD xs j 0
+  pub outside : (k : ℕ) → (k < at) ⊎ (at + length xs ≤ k) → getD bs′ k 0 ≡ getD bs k 0
+
+-- bs′ is bs with bytes 238 (hexadecimal EE) at the pairs of station s with each station below k
+pub record Filled (bs : List ℕ) (s k : ℕ) (bs′ : List ℕ) : Type 0 where
+  pub long : length bs′ ≡ length bs
+  pub header : (p : ℕ) → p < 10 → getD bs′ p 0 ≡ getD bs p 0
+  pub lost : (t j : ℕ) → t < k → j < 64 → getD bs′ (block-offset s t + j) 0 ≡ 238
+  pub others : (a b j : ℕ) → a ≢ s → b ≢ s → j < 64 → getD bs′ (block-offset a b + j) 0 ≡ getD bs (block-offset a b + j) 0
+
+-- bs′ is bs with station s marked out, and each byte of its pairs 238 (hexadecimal EE)
+pub record TakenOut (bs : List ℕ) (s : ℕ) (bs′ : List ℕ) : Type 0 where
+  pub long : length bs′ ≡ length bs
+  pub header : (k : ℕ) → k < 6 → getD bs′ k 0 ≡ getD bs k 0
+  pub marks : Marked (image-marks bs) s true (image-marks bs′)
+  pub low : image-marks bs′ / 2 ^ image-size bs ≡ 0
+  pub lost : (t j : ℕ) → t < image-size bs → j < 64 → getD bs′ (block-offset s t + j) 0 ≡ 238
+  pub others : (a b j : ℕ) → a ≢ s → b ≢ s → j < 64 → getD bs′ (block-offset a b + j) 0 ≡ getD bs (block-offset a b + j) 0
+
+-- bs′ is bs with station s marked in, and nothing else changed
+pub record BroughtIn (bs : List ℕ) (s : ℕ) (bs′ : List ℕ) : Type 0 where
+  pub long : length bs′ ≡ length bs
+  pub header : (k : ℕ) → k < 6 → getD bs′ k 0 ≡ getD bs k 0
+  pub marks : Marked (image-marks bs) s false (image-marks bs′)
+  pub low : image-marks bs′ / 2 ^ image-size bs ≡ 0
+  pub others : (k : ℕ) → 10 ≤ k → getD bs′ k 0 ≡ getD bs k 0
+
+-- what put, take out and bring in answer and leave of an image's bytes
+abbrev pub PutImage : List ℕ → ℕ → ℕ → Block → Result (Unit {0}) Fault → List ℕ → Type 0
+PutImage bs a b x r bs′ = (r ≡ get-answer (image-meaning bs) a b) × After r (Overwritten bs (block-offset a b) (x .bytes) bs′) (bs′ ≡ bs)
+
+abbrev pub TakeImage : List ℕ → ℕ → Result (Unit {0}) Fault → List ℕ → Type 0
+TakeImage bs s r bs′ = (r ≡ take-out-answer (image-meaning bs) s) × After r (TakenOut bs s bs′) (bs′ ≡ bs)
+
+abbrev pub BringImage : List ℕ → ℕ → Result (Unit {0}) Fault → List ℕ → Type 0
+BringImage bs s r bs′ = (r ≡ bring-in-answer (image-meaning bs) s) × After r (BroughtIn bs s bs′) (bs′ ≡ bs)

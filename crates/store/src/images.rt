@@ -1,14 +1,21 @@
-// Images: the blocks of all pairs in bytes, after a header.
+// The image: a store for writing over borrowed bytes.
 ghost use mathlib.Core.Bool.{true, cond};
 ghost use mathlib.Core.Path.{_≡_};
-ghost use Prim.Native.Nat.{_+_, _≤_};
+ghost use Prim.Native.Nat.{_+_, _≤_, _<_};
 ghost use lib.ListN.{length};
-ghost use Rattle.std.specs.Results.{isOk};
 ghost use Rattle.code.specs.Rules.{of};
-ghost use Rattle.store.specs.Images.{image-check, image-size, image-marks, image-meaning, block-at};
+ghost use Rattle.std.specs.Results.{isOk};
+ghost use Rattle.store.specs.Images.{image-check, image-size, image-meaning, Overwritten, Filled, PutImage, TakeImage, BringImage};
 ghost use Rattle.store.specs.Meaning.{get-answer, in-answer};
+use crate::layout::get_from_image;
+use crate::layout::is_in_image;
+use crate::layout::marks_in;
+use crate::layout::size_in;
+use crate::refusals::admit_in;
+use crate::refusals::admit_out;
 use crate::refusals::admit_pair;
 use crate::stores::ReadStore;
+use crate::stores::WriteStore;
 use code::Block;
 use code::ByteKind;
 use code::Fault;
@@ -16,111 +23,142 @@ use code::Marks;
 use code::Size;
 use code::place;
 
-// Whether bytes are an image. Refused by 13, 14, 1, 13 and 15, in this order.
-pub fn check_image(bytes: &[u8]) -> Result<(), Fault>
-    ensures { λ r. ⌜ r ≡ image-check (now (bytes .entry)) ⌝ }
+// Lays bytes from an offset on.
+fn overwrite(bytes: &mut [u8], at: usize, with: &[u8])
+    requires { ⌜ at + length (now with) ≤ length (now bytes) ⌝ }
+    ensures { λ _. ⌜ Overwritten (now (bytes .entry)) at (now (with .entry)) (now (bytes .exit)) ⌝ }
 {
-    let [version, l0, l1, l2, l3, number, m0, m1, m2, m3, blocks @ ..] = bytes else {
-        return Err(Fault::WrongLength(bytes.len()));
-    };
-    if *version != 1 {
-        return Err(Fault::WrongVersion(0));
-    }
-    let size = Size::new(*number)?;
-    let length = u32::from_be_bytes([*l0, *l1, *l2, *l3]);
-    let marks = u32::from_be_bytes([*m0, *m1, *m2, *m3]);
-    let expected = 64 * size.pairs();
-    if length as usize != 5 + expected || blocks.len() != expected {
-        return Err(Fault::WrongLength(bytes.len()));
-    }
-    if marks >> size.number() != 0 {
-        return Err(Fault::StrayMarks);
-    }
-    Ok(())
+    bytes[at..at + with.len()].copy_from_slice(with);
 }
 
-// The size of an image.
-fn size_in(bytes: &[u8]) -> Size
+// Fills the blocks of every pair with station s with bytes EE.
+fn fill_lost(bytes: &mut [u8], n: u8, s: u8)
+    requires sound { ⌜ isOk (image-check (now bytes)) ≡ true ⌝ }
+    requires sized { ⌜ n ≡ image-size (now bytes) ⌝ }
+    requires below { ⌜ s < n ⌝ }
+    ensures { λ _. ⌜ Filled (now (bytes .entry)) s n (now (bytes .exit)) ⌝ }
+{
+    for t in 0..n {
+        overwrite(bytes, 10 + 64 * place(s, t), &[0xEE; 64]);
+    }
+}
+
+// Puts the block of a pair.
+fn put_in_image(bytes: &mut [u8], a: u8, b: u8, x: Block) -> Result<(), Fault>
     requires { ⌜ isOk (image-check (now bytes)) ≡ true ⌝ }
-    ensures { λ r. ⌜ r .number ≡ image-size (now (bytes .entry)) ⌝ }
-{
-    match Size::new(bytes[5]) {
-        Ok(size) => size,
-        Err(_) => unreachable(),
-    }
-}
-
-// The marks of an image.
-fn marks_in(bytes: &[u8]) -> Marks
-    requires { ⌜ isOk (image-check (now bytes)) ≡ true ⌝ }
-    ensures { λ r. ⌜ r .bits ≡ image-marks (now (bytes .entry)) ⌝ }
-{
-    Marks::from_bits(u32::from_be_bytes([bytes[6], bytes[7], bytes[8], bytes[9]]))
-}
-
-// The 64 bytes from an offset on, as a block.
-fn block_in(bytes: &[u8], at: usize) -> Block
-    requires { ⌜ at + 64 ≤ length (now bytes) ⌝ }
-    ensures { λ r. ⌜ r ≡ block-at (now (bytes .entry)) at ⌝ }
-{
-    let mut copy = [0; 64];
-    copy.copy_from_slice(&bytes[at..at + 64]);
-    Block::from_bytes(copy)
-}
-
-// What an image answers to `is_in`.
-fn is_in_image(bytes: &[u8], s: u8) -> Result<bool, Fault>
-    requires { ⌜ isOk (image-check (now bytes)) ≡ true ⌝ }
-    ensures { λ r. ⌜ r ≡ in-answer (image-meaning (now (bytes .entry))) s ⌝ }
-{
-    if s >= size_in(bytes).number() {
-        return Err(Fault::NoSuchStation(s));
-    }
-    Ok(!marks_in(bytes).has(s))
-}
-
-// What an image answers to `get`.
-fn get_from_image(bytes: &[u8], a: u8, b: u8, into: &mut Block) -> Result<(), Fault>
-    requires { ⌜ isOk (image-check (now bytes)) ≡ true ⌝ }
-    ensures answer { λ r. ⌜ r ≡ get-answer (image-meaning (now (bytes .entry))) a b ⌝ }
-    ensures into { λ r. ⌜ now (into .exit) ≡ cond (isOk r) (of (image-meaning (now (bytes .entry)) .block) a b) (now (into .entry)) ⌝ }
+    ensures { λ r. ⌜ PutImage (now (bytes .entry)) a b x r (now (bytes .exit)) ⌝ }
 {
     admit_pair(size_in(bytes), marks_in(bytes), a, b)?;
-    *into = block_in(bytes, 10 + 64 * place(a, b));
+    overwrite(bytes, 10 + 64 * place(a, b), x.as_bytes());
     Ok(())
 }
 
-// An image held for reading only.
-#[derive(Clone, Copy)]
-pub struct ReadImage<'a> {
-    bytes: &'a [u8],
-    ghost sound: { isOk (image-check (bytes .now)) ≡ true },
+// Marks station s out, and fills its blocks.
+fn take_from_image(bytes: &mut [u8], s: u8) -> Result<(), Fault>
+    requires { ⌜ isOk (image-check (now bytes)) ≡ true ⌝ }
+    ensures { λ r. ⌜ TakeImage (now (bytes .entry)) s r (now (bytes .exit)) ⌝ }
+{
+    let size = size_in(bytes);
+    let out = marks_in(bytes);
+    admit_out(size, out, s)?;
+    fill_lost(bytes, size.number(), s);
+    overwrite(bytes, 6, &out.with(s, true).bits().to_be_bytes());
+    Ok(())
 }
 
-impl<'a> ReadImage<'a> {
-    // Of bytes that `check_image` passed.
-    pub fn make(bytes: &'a [u8]) -> Self
-        requires { ⌜ isOk (image-check (now bytes)) ≡ true ⌝ }
-        ensures { λ r. ⌜ now (r .bytes) ≡ now (bytes .entry) ⌝ }
+// Marks station s in.
+fn bring_to_image(bytes: &mut [u8], s: u8) -> Result<(), Fault>
+    requires { ⌜ isOk (image-check (now bytes)) ≡ true ⌝ }
+    ensures { λ r. ⌜ BringImage (now (bytes .entry)) s r (now (bytes .exit)) ⌝ }
+{
+    let out = marks_in(bytes);
+    admit_in(size_in(bytes), out, s)?;
+    overwrite(bytes, 6, &out.with(s, false).bits().to_be_bytes());
+    Ok(())
+}
+
+// The borrowed bytes.
+pub struct Lent<'a> {
+    bytes: &'a mut [u8],
+}
+
+impl Lent<'_> {
+    fn size(&self) -> Size
+        requires { ⌜ isOk (image-check (now self .bytes .now)) ≡ true ⌝ }
+        ensures { λ r. ⌜ r .number ≡ image-size (now (self .entry) .bytes .now) ⌝ }
     {
-        ReadImage { bytes }
-    }
-}
-
-pub impl ReadStore for ReadImage<'_> as ReadImageStore {
-    type Block = Block;
-
-    ghost means = { λ v. image-meaning (v .bytes .now) };
-
-    fn size(&self) -> Size {
         size_in(self.bytes)
     }
 
-    fn is_in(&self, s: u8) -> Result<bool, Fault> {
+    fn is_in(&self, s: u8) -> Result<bool, Fault>
+        requires { ⌜ isOk (image-check (now self .bytes .now)) ≡ true ⌝ }
+        ensures { λ r. ⌜ r ≡ in-answer (image-meaning (now (self .entry) .bytes .now)) s ⌝ }
+    {
         is_in_image(self.bytes, s)
     }
 
-    fn get(&self, a: u8, b: u8, into: &mut Block) -> Result<(), Fault> {
+    fn get(&self, a: u8, b: u8, into: &mut Block) -> Result<(), Fault>
+        requires { ⌜ isOk (image-check (now self .bytes .now)) ≡ true ⌝ }
+        ensures answer { λ r. ⌜ r ≡ get-answer (image-meaning (now (self .entry) .bytes .now)) a b ⌝ }
+        ensures into { λ r. ⌜ now (into .exit) ≡ cond (isOk r) (of (image-meaning (now (self .entry) .bytes .now) .block) a b) (now (into .entry)) ⌝ }
+    {
         get_from_image(self.bytes, a, b, into)
+    }
+
+    fn put(&mut self, a: u8, b: u8, x: Block) -> Result<(), Fault>
+        requires { ⌜ isOk (image-check (now self .bytes .now)) ≡ true ⌝ }
+        ensures { λ r. ⌜ PutImage (now (self .entry) .bytes .now) a b x r (now (self .exit) .bytes .now) ⌝ }
+    {
+        put_in_image(self.bytes, a, b, x)
+    }
+
+    fn take_out(&mut self, s: u8) -> Result<(), Fault>
+        requires { ⌜ isOk (image-check (now self .bytes .now)) ≡ true ⌝ }
+        ensures { λ r. ⌜ TakeImage (now (self .entry) .bytes .now) s r (now (self .exit) .bytes .now) ⌝ }
+    {
+        take_from_image(self.bytes, s)
+    }
+
+    fn bring_in(&mut self, s: u8) -> Result<(), Fault>
+        requires { ⌜ isOk (image-check (now self .bytes .now)) ≡ true ⌝ }
+        ensures { λ r. ⌜ BringImage (now (self .entry) .bytes .now) s r (now (self .exit) .bytes .now) ⌝ }
+    {
+        bring_to_image(self.bytes, s)
+    }
+}
+
+// An image that can be written.
+pub struct Image<'a> {
+    lent: Lent<'a>,
+    ghost sound: { isOk (image-check (lent .bytes .now)) ≡ true },
+}
+
+impl<'a> Image<'a> {
+    // Of bytes that `check_image` passed.
+    pub fn make(bytes: &'a mut [u8]) -> Self
+        requires { ⌜ isOk (image-check (now bytes)) ≡ true ⌝ }
+        ensures { λ r. ⌜ r .lent .bytes .now ≡ now (bytes .entry) ⌝ }
+    {
+        Image {
+            lent: Lent { bytes },
+        }
+    }
+}
+
+pub impl ReadStore for Image<'_> as ImageRead {
+    type Block = Block;
+
+    ghost means = { λ v. image-meaning (v .lent .bytes .now) };
+
+    fn size(&self) -> Size {
+        self.lent.size()
+    }
+
+    fn is_in(&self, s: u8) -> Result<bool, Fault> {
+        self.lent.is_in(s)
+    }
+
+    fn get(&self, a: u8, b: u8, into: &mut Block) -> Result<(), Fault> {
+        self.lent.get(a, b, into)
     }
 }

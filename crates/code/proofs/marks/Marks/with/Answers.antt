@@ -1,11 +1,10 @@
-use mathlib.Core.Path.{_≡_, refl, sym, _∙_, ap}
-use mathlib.Core.Bool.{Bool, true, false, not, cond, Bool·beq}
-use Prim.Native.Nat.{ℕ}
+use mathlib.Core.Path.{_≡_, refl, sym, _∙_, ap, ap₂}
+use mathlib.Core.Bool.{Bool, true, false, not, Bool·beq}
+use Prim.Native.Nat.{_/_, _^_, _<_}
+use native.Mathlib.Nat.{div-eq-of-lt}
 use native.Mathlib.Omega.{arith}
 use lib.Bits.{bitXor}
-use lib.Dec.{eqb}
-use Rattle.std.proofs.shelf.Bits.{one-shl}
-use Rattle.std.proofs.shelf.Tests.{cases-eq}
+use Rattle.std.proofs.shelf.Bits.{one-shl, pow-below, xor-shr}
 use Rattle.std.proofs.shelf.Ways.{tells}
 use Rattle.code.specs.Marks.{marked}
 use Rattle.code.proofs.Toggle.{toggled}
@@ -25,5 +24,9 @@ returns c =
           ap (λ q. marked q k) (c .from-bits .ensures ∙ ap (bitXor (c .args .self .bits)) (one-shl (c .args .s) 32 l))
           ∙ toggled (c .args .self .bits) (c .args .s) k
           ∙ grind (arith, tells);
+      low = λ n l e.
+          let w : c .args .s < 32 = c .if-s-ge32 .left in
+          ap (λ q. q / 2 ^ n) (c .from-bits .ensures ∙ ap (bitXor (c .args .self .bits)) (one-shl (c .args .s) 32 w))
+          ∙ xor-shr (c .args .self .bits) (2 ^ c .args .s) n ∙ ap₂ bitXor e (div-eq-of-lt (pow-below (c .args .s) n l));
       same = λ l. let m = c .if-s-ge32 .left in absurd (omega arith);
     }

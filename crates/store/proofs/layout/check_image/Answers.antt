@@ -12,7 +12,7 @@ use Rattle.code.specs.Sizes.{among, sizes}
 use Rattle.code.specs.declared.faults.Fault.the-variants.{NotASize}
 use Rattle.code.proofs.Primes.{unlisted}
 use Rattle.store.specs.Images.{image-check, image-version, image-size}
-use Rattle.store.proofs.images.check_image.Needs as need
+use Rattle.store.proofs.layout.check_image.Needs as need
 
 -- ten bytes of version 1 whose size is none
 no-size : (bs : List ℕ) → 10 ≤ length bs → image-version bs ≡ 1 → among (image-size bs) sizes ≡ false → image-check bs ≡ Err (NotASize (image-size bs))

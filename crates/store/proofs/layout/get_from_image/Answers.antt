@@ -10,7 +10,7 @@ use Rattle.code.specs.Sizes.{pairs}
 use Rattle.store.specs.Images.{image-size}
 use Rattle.store.proofs.Gets.{pair-below}
 use Rattle.store.proofs.ImageBytes.{checked}
-use Rattle.store.proofs.images.get_from_image.Needs as need
+use Rattle.store.proofs.layout.get_from_image.Needs as need
 
 pub block-in-requires : need.block-in-requires
 block-in-requires c κs =

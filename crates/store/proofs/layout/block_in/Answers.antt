@@ -5,7 +5,7 @@ use lib.ListN.{take, drop}
 use Rattle.code.specs.Bytes.{same-block}
 use Rattle.store.specs.Images.{block-at}
 use Rattle.store.proofs.ImageBytes.{take-part}
-use Rattle.store.proofs.images.block_in.Needs as need
+use Rattle.store.proofs.layout.block_in.Needs as need
 
 pub returns : need.returns
 returns c =
