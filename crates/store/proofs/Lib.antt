@@ -2,3 +2,4 @@ pub mod Gets
 pub mod ImageBytes
 pub mod TableRows
 pub mod ImageWrites
+pub mod Afters

@@ -1,12 +1,12 @@
 // The image: a store for writing over borrowed bytes.
-ghost use mathlib.Core.Bool.{true, cond};
+ghost use mathlib.Core.Bool.{true, false, cond};
 ghost use mathlib.Core.Path.{_≡_};
 ghost use Prim.Native.Nat.{_+_, _≤_, _<_};
 ghost use lib.ListN.{length};
 ghost use Rattle.code.specs.Rules.{of};
 ghost use Rattle.std.specs.Results.{isOk};
 ghost use Rattle.store.specs.Images.{image-check, image-size, image-meaning, Overwritten, Filled, PutImage, TakeImage, BringImage};
-ghost use Rattle.store.specs.Meaning.{get-answer, in-answer};
+ghost use Rattle.store.specs.Meaning.{After, Written, Remarked, get-answer, in-answer, take-out-answer, bring-in-answer};
 use crate::layout::get_from_image;
 use crate::layout::is_in_image;
 use crate::layout::marks_in;
@@ -160,5 +160,31 @@ pub impl ReadStore for Image<'_> as ImageRead {
 
     fn get(&self, a: u8, b: u8, into: &mut Block) -> Result<(), Fault> {
         self.lent.get(a, b, into)
+    }
+}
+
+pub impl WriteStore for Image<'_> as ImageWrite {
+    fn put(&mut self, a: u8, b: u8, x: Block) -> Result<(), Fault>
+        ensures answer { λ r. ⌜ r ≡ get-answer (image-meaning (now (self .entry) .lent .bytes .now)) a b ⌝ }
+        ensures after { λ r. ⌜ After r (Written (image-meaning (now (self .entry) .lent .bytes .now)) a b x (image-meaning (now (self .exit) .lent .bytes .now))) (image-meaning (now (self .exit) .lent .bytes .now) ≡ image-meaning (now (self .entry) .lent .bytes .now)) ⌝ }
+        ensures bytes { λ r. ⌜ PutImage (now (self .entry) .lent .bytes .now) a b x r (now (self .exit) .lent .bytes .now) ⌝ }
+    {
+        self.lent.put(a, b, x)
+    }
+
+    fn take_out(&mut self, s: u8) -> Result<(), Fault>
+        ensures answer { λ r. ⌜ r ≡ take-out-answer (image-meaning (now (self .entry) .lent .bytes .now)) s ⌝ }
+        ensures after { λ r. ⌜ After r (Remarked (image-meaning (now (self .entry) .lent .bytes .now)) s true (image-meaning (now (self .exit) .lent .bytes .now))) (image-meaning (now (self .exit) .lent .bytes .now) ≡ image-meaning (now (self .entry) .lent .bytes .now)) ⌝ }
+        ensures bytes { λ r. ⌜ TakeImage (now (self .entry) .lent .bytes .now) s r (now (self .exit) .lent .bytes .now) ⌝ }
+    {
+        self.lent.take_out(s)
+    }
+
+    fn bring_in(&mut self, s: u8) -> Result<(), Fault>
+        ensures answer { λ r. ⌜ r ≡ bring-in-answer (image-meaning (now (self .entry) .lent .bytes .now)) s ⌝ }
+        ensures after { λ r. ⌜ After r (Remarked (image-meaning (now (self .entry) .lent .bytes .now)) s false (image-meaning (now (self .exit) .lent .bytes .now))) (image-meaning (now (self .exit) .lent .bytes .now) ≡ image-meaning (now (self .entry) .lent .bytes .now)) ⌝ }
+        ensures bytes { λ r. ⌜ BringImage (now (self .entry) .lent .bytes .now) s r (now (self .exit) .lent .bytes .now) ⌝ }
+    {
+        self.lent.bring_in(s)
     }
 }

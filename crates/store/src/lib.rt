@@ -8,6 +8,7 @@ pub mod tables;
 
 pub use images::Image;
 pub use images::ImageRead;
+pub use images::ImageWrite;
 pub use layout::check_image;
 pub use read_images::ReadImage;
 pub use read_images::ReadImageStore;
