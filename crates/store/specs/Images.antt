@@ -5,12 +5,13 @@
 --   6 to 9 the marks, big-endian: the bit of weight 2^s is set where station s is out
 --   10 on  N blocks of 64 bytes
 use mathlib.Core.Path.{_≡_, refl, ap}
-use mathlib.Core.Bool.{true, false, cond, _&&_}
+use mathlib.Core.Bool.{true, false, cond, _&&_, _||_}
 use mathlib.Core.List.{List, [], _∷_}
 use mathlib.Core.Logic.{_≢_, _⊎_}
 use Prim.Native.Nat.{ℕ, zero, suc, _+_, _*_, _/_, _^_, _<_, _≤_}
-use lib.Dec.{eqb, ltb}
-use lib.ListN.{length, getD}
+use denote.Ref.{RefT}
+use lib.Dec.{eqb, leb, ltb}
+use lib.ListN.{length, getD, take}
 use Rattle.std.specs.declared.result.Result.{Result}
 use Rattle.std.specs.declared.result.Result.the-variants.{Ok, Err}
 use Rattle.code.specs.Marks.{marked, Marked}
@@ -18,7 +19,7 @@ use Rattle.code.specs.Places.{pair-place}
 use Rattle.code.specs.Sizes.{among, sizes, pairs}
 use Rattle.code.specs.declared.blocks.Block.{Block}
 use Rattle.code.specs.declared.faults.Fault.{Fault}
-use Rattle.code.specs.declared.faults.Fault.the-variants.{NotASize, WrongLength, WrongVersion, StrayMarks}
+use Rattle.code.specs.declared.faults.Fault.the-variants.{NotASize, AreaTooShort, NoSuchStation, WrongLength, WrongVersion, StrayMarks}
 use Rattle.store.specs.Meaning.{Meaning, After, get-answer, take-out-answer, bring-in-answer}
 
 -- four bytes from k on, big-endian
@@ -112,3 +113,18 @@ TakeImage bs s r bs′ = (r ≡ take-out-answer (image-meaning bs) s) × After r
 
 abbrev pub BringImage : List ℕ → ℕ → Result (Unit {0}) Fault → List ℕ → Type 0
 BringImage bs s r bs′ = (r ≡ bring-in-answer (image-meaning bs) s) × After r (BroughtIn bs s bs′) (bs′ ≡ bs)
+
+-- the 64 bytes of a pair of an image, or the first 64 of a second area: the area is looked at first, then the stations
+abbrev pub show-answer : ℕ → ℕ → ℕ → ℕ → Result (Unit {0}) Fault
+show-answer n len a b =
+    cond (ltb len 64) (Err (AreaTooShort len))
+    (cond (leb n a) (Err (NoSuchStation a))
+    (cond (leb n b) (Err (NoSuchStation b)) (Ok tt)))
+
+abbrev pub shown-bytes : List ℕ → List ℕ → ℕ → ℕ → List ℕ
+shown-bytes bs second a b =
+    cond (marked (image-marks bs) a || marked (image-marks bs) b) (take 64 second) (part bs (block-offset a b) 64)
+
+abbrev pub Shown : List ℕ → List ℕ → ℕ → ℕ → Result (RefT (List ℕ)) Fault → Type 0
+Shown bs second a b (Ok x) = (show-answer (image-size bs) (length second) a b ≡ Ok tt) × (x .now ≡ shown-bytes bs second a b)
+Shown bs second a b (Err e) = show-answer (image-size bs) (length second) a b ≡ Err e

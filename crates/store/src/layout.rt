@@ -5,7 +5,7 @@ ghost use Prim.Native.Nat.{_+_, _≤_};
 ghost use lib.ListN.{length};
 ghost use Rattle.std.specs.Results.{isOk};
 ghost use Rattle.code.specs.Rules.{of};
-ghost use Rattle.store.specs.Images.{image-check, image-size, image-marks, image-meaning, block-at};
+ghost use Rattle.store.specs.Images.{image-check, image-size, image-marks, image-meaning, part, block-at};
 ghost use Rattle.store.specs.Meaning.{get-answer, in-answer};
 use crate::refusals::admit_pair;
 use code::Block;
@@ -56,13 +56,21 @@ pub(crate) fn marks_in(bytes: &[u8]) -> Marks
     Marks::from_bits(u32::from_be_bytes([bytes[6], bytes[7], bytes[8], bytes[9]]))
 }
 
-// The 64 bytes from an offset on, as a block.
+// The 64 bytes from an offset on.
+pub(crate) fn part_in(bytes: &[u8], at: usize) -> &[u8]
+    requires { ⌜ at + 64 ≤ length (now bytes) ⌝ }
+    ensures { λ r. ⌜ now r ≡ part (now (bytes .entry)) at 64 ⌝ }
+{
+    &bytes[at..at + 64]
+}
+
+// The same as a block.
 fn block_in(bytes: &[u8], at: usize) -> Block
     requires { ⌜ at + 64 ≤ length (now bytes) ⌝ }
     ensures { λ r. ⌜ r ≡ block-at (now (bytes .entry)) at ⌝ }
 {
     let mut copy = [0; 64];
-    copy.copy_from_slice(&bytes[at..at + 64]);
+    copy.copy_from_slice(part_in(bytes, at));
     Block::from_bytes(copy)
 }
 

@@ -1,14 +1,12 @@
-use mathlib.Core.Path.{_≡_, _∙_, ap}
-use Prim.Native.Nat.{_+_, _-_}
-use native.Mathlib.Omega.{arith}
-use lib.ListN.{take, drop}
+use mathlib.Core.Path.{sym, _∙_, ap}
+use lib.ListN.{length}
 use Rattle.code.specs.Bytes.{same-block}
-use Rattle.store.specs.Images.{block-at}
-use Rattle.store.proofs.ImageBytes.{take-part}
+use Rattle.store.specs.Images.{block-at, length-part}
 use Rattle.store.proofs.layout.block_in.Needs as need
+
+pub copy-from-slice-requires : need.copy-from-slice-requires
+copy-from-slice-requires c κs = sym (ap length (c .part-in .ensures) ∙ length-part (c .args .bytes .now) (c .args .at) 64)
 
 pub returns : need.returns
 returns c =
-    let e : c .args .at + 64 - c .args .at ≡ 64 = omega arith in
-    same-block (c .from-bytes .result) (block-at (c .args .bytes .now) (c .args .at))
-    (c .from-bytes .ensures ∙ c .copy-from-slice .ensures .after ∙ ap (λ k. take k (drop (c .args .at) (c .args .bytes .now))) e ∙ take-part (c .args .bytes .now) (c .args .at) 64 (c .pre))
+    same-block (c .from-bytes .result) (block-at (c .args .bytes .now) (c .args .at)) (c .from-bytes .ensures ∙ c .copy-from-slice .ensures .after ∙ c .part-in .ensures)
