@@ -11,3 +11,9 @@ pub mod Exists
 pub mod Hidden
 pub mod Inverse
 pub mod Rebuild
+pub mod Absent
+pub mod Steps
+pub mod Stations
+pub mod Rest
+pub mod Settled
+pub mod Placed

@@ -40,14 +40,14 @@ upto : (P : ℕ → Type 0) (n : ℕ) → ((k : ℕ) → k < n → P k) → P n 
 upto P n h p k l = elim (cases-eq k n) [ inl e ↦ subst P (sym e) p | inr e ↦ h k (omega arith) ]
 
 -- where the count is 0, 1 or 2
-none-absent : (absent : ℕ → Bool) (n : ℕ) → absentees absent n ≡ 0 → (k : ℕ) → k < n → absent k ≡ false
+pub none-absent : (absent : ℕ → Bool) (n : ℕ) → absentees absent n ≡ 0 → (k : ℕ) → k < n → absent k ≡ false
 none-absent absent zero e = λ k l. absurd (not-suc-le-zero l)
 none-absent absent (suc n) e = elim (counted (absent n)) [
   | inl c ↦ absurd (omega arith)
   | inr c ↦ upto (λ k. absent k ≡ false) n (none-absent absent n (omega arith)) (c .0)
 ]
 
-one-absent : (absent : ℕ → Bool) (n : ℕ) → absentees absent n ≡ 1 → (i : ℕ) × (i < n) × (absent i ≡ true) × ((k : ℕ) → k < n → k ≢ i → absent k ≡ false)
+pub one-absent : (absent : ℕ → Bool) (n : ℕ) → absentees absent n ≡ 1 → (i : ℕ) × (i < n) × (absent i ≡ true) × ((k : ℕ) → k < n → k ≢ i → absent k ≡ false)
 one-absent absent zero e = absurd (omega arith)
 one-absent absent (suc n) e = elim (counted (absent n)) [
   | inl c ↦ (n, le-refl (suc n), c .0, upto (λ k. k ≢ n → absent k ≡ false) n (λ k l d. none-absent absent n (omega arith) k l) (λ d. absurd (d refl)))
@@ -55,7 +55,7 @@ one-absent absent (suc n) e = elim (counted (absent n)) [
       (r .0, le-step (r .1), r .2, upto (λ k. k ≢ r .0 → absent k ≡ false) n (r .3) (λ _. c .0))
 ]
 
-two-absent : (absent : ℕ → Bool) (n : ℕ) → absentees absent n ≡ 2 → Pair absent n
+pub two-absent : (absent : ℕ → Bool) (n : ℕ) → absentees absent n ≡ 2 → Pair absent n
 two-absent absent zero e = absurd (omega arith)
 two-absent absent (suc n) e = elim (counted (absent n)) [
   | inl c ↦ let r : (i : ℕ) × (i < n) × (absent i ≡ true) × ((k : ℕ) → k < n → k ≢ i → absent k ≡ false) = one-absent absent n (omega arith) in

@@ -9,7 +9,7 @@ const LIMIT: u64 = 31_755;
 fn run(rt: &LibcRuntime) -> Result<(), AnyError> {
     let mut bytes = Vec::new(rt.alloc());
     rt.stdin().take(LIMIT).read_to_end(&mut bytes)?;
-    let text = recovery::inspect(rt.alloc(), bytes.as_slice())?;
+    let text = report::inspect(rt.alloc(), bytes.as_slice())?;
     print!(rt, "{text}")?;
     Ok(())
 }

@@ -1,1 +1,7 @@
-pub mod First
+mod Absence
+mod Twos
+mod Areas
+mod Assembled
+mod Picked
+mod Laid
+mod Impulses

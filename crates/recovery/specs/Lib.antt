@@ -1,2 +1,3 @@
-pub mod Audits
-pub mod Reports
+pub mod Recovery
+pub mod Work
+pub mod Patterns

@@ -1,14 +1,15 @@
-// What can be asked of any store for reading: its audit, lost blocks, and a report.
-pub mod audits;
-pub mod reports;
+// Lost blocks from the others, over any store for reading: recovery of a pair, both rows of two lost stations, patterns.
+pub mod absent;
+pub mod patterns;
+pub mod rebuilds;
+pub mod recovery;
+mod sums;
 
-pub use audits::Verdict;
-pub use audits::VerdictDebug;
-pub use audits::VerdictPartialEq;
-pub use audits::audit;
-pub use audits::audit_beside;
-pub use audits::first_absent;
-pub use audits::is_absent;
-pub use reports::VerdictDisplay;
-pub use reports::inspect;
-pub use reports::report;
+pub use absent::absent_marks;
+pub use absent::count_absent;
+pub use patterns::Impulse;
+pub use patterns::ImpulseStore;
+pub use patterns::pattern;
+pub use rebuilds::rebuild_two;
+pub use recovery::recover;
+pub use recovery::recover_beside;
