@@ -1,0 +1,2 @@
+pub mod Absents
+pub mod Datas

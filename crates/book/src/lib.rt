@@ -1,0 +1,10 @@
+// The book: blocks for every pair of stations over any store for writing, stations swapped while everybody writes.
+pub mod books;
+mod reads;
+pub mod records;
+
+pub use books::Book;
+pub use records::Filling;
+pub use records::FullTicket;
+pub use records::OpenTicket;
+pub use records::Ticket;
