@@ -1,2 +1,3 @@
 pub mod Absents
 pub mod Datas
+pub mod Fillings

@@ -14,7 +14,8 @@ use Rattle.code.specs.Rebuilt.{Recovered}
 use Rattle.code.specs.Rules.{Blocks, of, Codeword}
 use Rattle.code.specs.declared.faults.Fault.{Fault}
 use Rattle.code.specs.declared.faults.Fault.the-variants.{OutAtOpen, AreaTooShort, NoSuchStation, CheckPair, AlreadyAbsent, NotOut, FillingUnderWay, TooManyAbsent, TicketRefused}
-use Rattle.store.specs.Meaning.{Meaning, Written, Remarked, first}
+use Rattle.store.specs.Meaning.{Meaning, Written, first}
+use Rattle.book.specs.Fillings.{next-of}
 use Rattle.book.specs.States.{State, state, size-of, being-filled, absent, absent-count}
 use Rattle.book.specs.declared.records.Filling.{Filling}
 use Rattle.book.specs.declared.records.Filling.the-variants.{Idle, At}
@@ -103,21 +104,27 @@ fill-answer st len t =
     cond (ltb len (8 * size-of st)) (Err (AreaTooShort len))
     (cond (being-filled (st .filling) t) (cond (too-many st) (Err (TooManyAbsent (absent-count st))) (Ok tt)) (Err (TicketRefused t)))
 
--- the next partner of the station being filled
-abbrev pub next-of : Filling → ℕ
-next-of Idle = 0
-next-of (At t next) = next
-
 -- may a ticket of station t be used to finish? Its station is the one being filled, and its next partner is n
 abbrev pub finish-answer : {B : Type 0} → State B → ℕ → Result (Unit {0}) Fault
 finish-answer st t =
     cond (being-filled (st .filling) t && eqb (next-of (st .filling)) (size-of st)) (Ok tt) (Err (TicketRefused t))
 
--- the pair with the next partner is recovered, and put if that partner is in; the next partner steps on by one, up to n
-pub record Stepped {B : Type 0} (G : Group B) (st : State B) (t : ℕ) (st′ : State B) : Type 0 where
-  pub full : next-of (st .filling) ≡ size-of st → st′ ≡ st
-  pub filling : next-of (st .filling) < size-of st → st′ .filling ≡ At t (next-of (st .filling) + 1)
+-- the pair of t and a next partner can be recovered: t is in, and at most two stations are absent
+pub record CanFill {B : Type 0} (st : State B) (t next len : ℕ) : Type 0 where
+  pub station : t < size-of st
+  pub inside : st .store .out t ≡ false
+  pub partner : next < size-of st
+  pub long : 8 * size-of st ≤ len
+  pub few : too-many st ≡ false
+
+-- it recovers the pair of the station being filled with its next partner, and puts it if that partner is in
+pub record Filled {B : Type 0} (G : Group B) (st : State B) (t next : ℕ) (m′ : Meaning B) : Type 0 where
   pub block : B
-  pub recovered : next-of (st .filling) < size-of st → Recovered G (size-of st) (absent st) (st .store .block) t (next-of (st .filling)) block
-  pub put : next-of (st .filling) < size-of st → st .store .out (next-of (st .filling)) ≡ false → Written (st .store) t (next-of (st .filling)) block (st′ .store)
-  pub passed : next-of (st .filling) < size-of st → st .store .out (next-of (st .filling)) ≡ true → st′ .store ≡ st .store
+  pub recovered : Recovered G (size-of st) (absent st) (st .store .block) t next block
+  pub put : st .store .out next ≡ false → Written (st .store) t next block m′
+  pub passed : st .store .out next ≡ true → m′ ≡ st .store
+
+-- where there is a next partner; else the store stays
+abbrev pub FilledNext : {B : Type 0} → Group B → State B → Filling → Meaning B → Type 0
+FilledNext G st Idle m′ = m′ ≡ st .store
+FilledNext G st (At t next) m′ = (next < size-of st → Filled G st t next m′) × (size-of st ≤ next → m′ ≡ st .store)

@@ -1,5 +1,6 @@
 // The book: blocks for every pair of stations over any store for writing, stations swapped while everybody writes.
 pub mod books;
+mod fills;
 mod reads;
 pub mod records;
 

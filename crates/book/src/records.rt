@@ -1,7 +1,10 @@
 // The record of the filling, and the tickets.
+ghost use mathlib.Core.Bool.{true, cond};
 ghost use mathlib.Core.Path.{_≡_};
 ghost use Prim.Native.Nat.{ℕ, _<_};
+ghost use Rattle.book.specs.Fillings.{stepped, next-of, ticket-after};
 ghost use Rattle.book.specs.States.{being-filled};
+ghost use Rattle.book.specs.declared.records.Ticket.the-variants.{Open, Full};
 ghost use Rattle.code.specs.Marks.{marked};
 use code::Marks;
 use code::Size;
@@ -35,6 +38,23 @@ impl Filling {
     }
 }
 
+impl Filling {
+    // Steps the next partner on by one, up to n, and gives the ticket for what is then left to fill.
+    pub(crate) fn advance(&mut self, n: u8, ticket: OpenTicket) -> Ticket
+        requires { ⌜ being-filled (now self) (ticket .station) ≡ true ⌝ }
+        ensures filling { λ _. ⌜ now (self .exit) ≡ stepped n (now (self .entry)) ⌝ }
+        ensures ticket { λ r. ⌜ r ≡ ticket-after n (next-of (now (self .exit))) (ticket .station) ⌝ }
+    {
+        match (self, ticket) {
+            (Filling::At { next, .. }, open) if *next < n => {
+                *next += 1;
+                open.exchange(*next == n)
+            }
+            (_, open) => open.exchange(true),
+        }
+    }
+}
+
 // What fit hands out. A ticket is spent by finish or abandon; it bears only its station.
 pub struct OpenTicket {
     pub(crate) station: u8,
@@ -64,12 +84,16 @@ impl OpenTicket {
         self.station
     }
 
-    // The full ticket of the same station.
-    pub(crate) fn into_full(self) -> FullTicket
-        ensures { λ r. ⌜ r .station ≡ self .station ⌝ }
+    // The same ticket, or a full one of its station.
+    pub(crate) fn exchange(self, full: bool) -> Ticket
+        ensures { λ r. ⌜ r ≡ cond full (Full (record { station = self .station })) (Open self) ⌝ }
     {
-        let OpenTicket { station } = self;
-        FullTicket { station }
+        if full {
+            let OpenTicket { station } = self;
+            Ticket::Full(FullTicket { station })
+        } else {
+            Ticket::Open(self)
+        }
     }
 
     // Ends the ticket, and gives its station.
