@@ -1,3 +1,4 @@
 pub mod Absents
 pub mod Datas
 pub mod Fillings
+pub mod Cleared

@@ -1,6 +1,7 @@
 // The book: blocks for every pair of stations over any store for writing, stations swapped while everybody writes.
 pub mod books;
 mod fills;
+mod opens;
 mod reads;
 pub mod records;
 
