@@ -4,9 +4,13 @@ mod fills;
 mod opens;
 mod reads;
 pub mod records;
+pub mod turns;
 
 pub use books::Book;
 pub use records::Filling;
 pub use records::FullTicket;
 pub use records::OpenTicket;
 pub use records::Ticket;
+pub use turns::Answer;
+pub use turns::Call;
+pub use turns::Turn;

@@ -135,7 +135,7 @@ module _ {B : Type 0} (G : Group B) where
       }
 
   -- none at each pair is a codeword
-  zeros : (n : ℕ) → Codeword G n (λ _ _. G .none)
+  pub zeros : (n : ℕ) → Codeword G n (λ _ _. G .none)
   zeros n =
       record {
         neighbourhoods = λ h l. neighbourhood-none G n (λ _ _. G .none) h (λ k _. refl);
