@@ -4,3 +4,5 @@ pub mod Calls
 pub mod Opens
 pub mod Tally
 pub mod Matches
+pub mod Racks
+pub mod Turns

@@ -3,10 +3,12 @@ pub mod books;
 mod fills;
 mod opens;
 mod reads;
+pub mod racks;
 pub mod records;
 pub mod turns;
 
 pub use books::Book;
+pub use racks::Rack;
 pub use records::Filling;
 pub use records::FullTicket;
 pub use records::OpenTicket;
