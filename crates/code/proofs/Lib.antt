@@ -17,3 +17,4 @@ pub mod Stations
 pub mod Rest
 pub mod Settled
 pub mod Placed
+pub mod Homs
