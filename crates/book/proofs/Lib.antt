@@ -1,3 +1,6 @@
 pub mod Absents
 pub mod Datas
 pub mod Fillings
+pub mod Addings
+pub mod Spreads
+pub mod Writings

@@ -1,3 +1,4 @@
 pub mod States
 pub mod Fillings
 pub mod Calls
+pub mod Additions

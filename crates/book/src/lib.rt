@@ -3,6 +3,7 @@ pub mod books;
 mod fills;
 mod reads;
 pub mod records;
+mod writes;
 
 pub use books::Book;
 pub use records::Filling;

@@ -25,7 +25,7 @@ module _ {B : Type 0} (G : Group B) (d : B) where
   image-sum true false = sym (G .unit d)
   image-sum false y = sym (unit-left G (image y))
 
-  image-cond : (t x y : Bool) → cond t (image x) (image y) ≡ image (cond t x y)
+  pub image-cond : (t x y : Bool) → cond t (image x) (image y) ≡ image (cond t x y)
   image-cond true x y = refl
   image-cond false x y = refl
 
