@@ -100,12 +100,12 @@ module _ {B : Type 0} (G : Group B) where
     same-out p q e h = sym (either-out (m .out) p q) ∙ ap₂ (λ x y. m .out x || m .out y) e h
 
     -- the pair took its block plus d
-    pub added-put : (m′ : Meaning B) → isOk (get-answer m a b) ≡ true → Written m a b (of (m .block) a b ⊕ d) m′ → Added G m (spot none d a b) m′
-    added-put m′ ok w = record { size = w .size; out = w .out; blocks = at }
+    pub added-put : (m′ : Meaning B) (x : B) → isOk (get-answer m a b) ≡ true → x ≡ of (m .block) a b ⊕ d → Written m a b x m′ → Added G m (spot none d a b) m′
+    added-put m′ x ok is w = record { size = w .size; out = w .out; blocks = at }
       where
         at : (p q : ℕ) → p < m .size → q < m .size → of (m′ .block) p q ≡ cond (m .out p || m .out q) (of (m .block) p q) (of (m .block) p q ⊕ of (spot none d a b) p q)
         at p q lp lq = elim (same-or-other a b (max p q) (min p q)) [
-          | inl e ↦ ap₂ (m′ .block) (e .0) (e .1) ∙ w .here
+          | inl e ↦ ap₂ (m′ .block) (e .0) (e .1) ∙ w .here ∙ is
               ∙ ap₂ _⊕_ (sym (ap₂ (m .block) (e .0) (e .1))) (sym (spot-here none d a b (max p q) (min p q) (e .0) (e .1)))
               ∙ sym (cond-false (m .out p || m .out q) (of (m .block) p q) (of (m .block) p q ⊕ of (spot none d a b) p q) (same-out p q (e .0) (e .1) ∙ in-pair ok))
           | inr e ↦ w .others p q lp lq e ∙ with-none (m .out p || m .out q) (of (m .block) p q)
