@@ -5,10 +5,10 @@ use mathlib.Core.List.{List}
 use mathlib.Core.Logic.{_⊎_, inl, inr}
 use Prim.Native.Nat.{ℕ, _+_, _≤_, _<_, max, min}
 use native.Mathlib.Omega.{arith}
-use lib.Dec.{eqb, leb, ltb}
+use lib.Dec.{eqb}
 use lib.ListN.{getD}
 use Rattle.std.specs.Results.{isOk}
-use Rattle.std.proofs.shelf.Tests.{cases-eq, or-from, and-left, and-right, ne-eqb, eq-eqb, and-from, cond-true, cond-false}
+use Rattle.std.proofs.shelf.Tests.{cases-eq, and-left, and-right, ne-eqb, eq-eqb, and-from, cond-true, cond-false}
 use Rattle.std.proofs.shelf.Ways.{tells}
 use Rattle.code.specs.Group.{Group}
 use Rattle.code.specs.Rules.{Blocks, of}

@@ -1,14 +1,7 @@
-use mathlib.Core.Path.{_≡_, sym, _∙_, ap}
-use mathlib.Core.Bool.{true}
-use native.Mathlib.Omega.{arith}
+use mathlib.Core.Path.{sym, ap}
 use Rattle.std.specs.Results.{isOk}
-use Rattle.std.specs.declared.result.Result.{Result}
-use Rattle.std.specs.declared.result.Result.the-variants.{Ok, Err}
-use Rattle.std.proofs.shelf.Tests.{lt-ltb, cond-true}
-use Rattle.code.specs.declared.faults.Fault.{Fault}
-use Rattle.code.specs.declared.faults.Fault.the-variants.{TooManyAbsent}
-use Rattle.book.specs.Calls.{too-many}
-use Rattle.book.specs.States.{state, absent-count}
+use Rattle.std.specs.declared.result.Result.the-variants.{Ok}
+use Rattle.book.specs.States.{state}
 use Rattle.book.proofs.Datas.{fine, refused-many}
 use Rattle.book.proofs.books.Book.may_write.Needs as need
 
