@@ -40,8 +40,8 @@ two-counted absent (suc zero) l h = absurd (omega arith)
 two-counted absent (suc (suc k)) l h =
     ap₂ (λ x t. x + cond t 1 0)
     (ap₂ (λ x t. x + cond t 1 0)
-      (none-counted absent k (λ s ls. h s ∙ lt-leb (suc (suc k)) (s + 2) (omega arith)))
-      (h k ∙ le-leb (suc (suc k)) (k + 2) (omega arith)))
+    (none-counted absent k (λ s ls. h s ∙ lt-leb (suc (suc k)) (s + 2) (omega arith)))
+    (h k ∙ le-leb (suc (suc k)) (k + 2) (omega arith)))
     (h (suc k) ∙ le-leb (suc (suc k)) (suc k + 2) (omega arith))
 
 -- they alone are out
@@ -114,16 +114,18 @@ module _ {B : Type 0} (G : Group B) (n a b : ℕ) (d : B) (inner : max a b + 2 <
   spread-rows m m₁ m₂ m₃ e odd i j start ei ej es h₁ h₂ h₃ =
       let w : Imaged G d n (spot false true a b) (rows .word) = as-bits odd in (
         w .bits,
-        (record {
-          code = w .code;
-          one = w .agrees a b (omega arith) (omega arith) tt ∙ spot-here false true a b (max a b) (min a b) refl refl;
-          others = λ p q lp lq h. w .agrees p q (omega arith) (omega arith) tt ∙ spot-other false true a b (max p q) (min p q) h;
-        },
-        added-same G m m₃ (λ u v. row-part G i (i + 1) area 0 u v ⊕ row-part G j (j + 1) area start u v ⊕ spot none d a b u v) (images G d (w .bits))
-        (λ u v lu lv. let l : u < n = omega arith in
-            total i j start ei ej es u v l lv ∙ sym (of-le (rows .word) u v lv) ∙ w .same u v l (omega arith) tt ∙ of-le (images G d (w .bits)) u v lv)
-        (added-more G m m₂ m₃ (λ u v. row-part G i (i + 1) area 0 u v ⊕ row-part G j (j + 1) area start u v) (spot none d a b)
-        (added-more G m m₁ m₂ (row-part G i (i + 1) area 0) (row-part G j (j + 1) area start) h₁ h₂) h₃)),
+        (
+          record {
+            code = w .code;
+            one = w .agrees a b (omega arith) (omega arith) tt ∙ spot-here false true a b (max a b) (min a b) refl refl;
+            others = λ p q lp lq h. w .agrees p q (omega arith) (omega arith) tt ∙ spot-other false true a b (max p q) (min p q) h;
+          },
+          added-same G m m₃ (λ u v. row-part G i (i + 1) area 0 u v ⊕ row-part G j (j + 1) area start u v ⊕ spot none d a b u v) (images G d (w .bits))
+              (λ u v lu lv. let l : u < n = omega arith in
+              total i j start ei ej es u v l lv ∙ sym (of-le (rows .word) u v lv) ∙ w .same u v l (omega arith) tt ∙ of-le (images G d (w .bits)) u v lv)
+              (added-more G m m₂ m₃ (λ u v. row-part G i (i + 1) area 0 u v ⊕ row-part G j (j + 1) area start u v) (spot none d a b)
+              (added-more G m m₁ m₂ (row-part G i (i + 1) area 0) (row-part G j (j + 1) area start) h₁ h₂) h₃),
+        ),
       )
 
 -- a data pair with the check pairs of its pattern

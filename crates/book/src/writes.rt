@@ -62,7 +62,14 @@ fn spread<S: WriteStore>(store: &mut S, a: u8, b: u8, d: S::Block, work: &mut [S
 }
 
 // Recovers the old block of a data pair, and adds what the new one differs by.
-fn write_pair<S: WriteStore>(store: &mut S, filling: Filling, a: u8, b: u8, x: S::Block, work: &mut [S::Block])
+fn write_pair<S: WriteStore>(
+    store: &mut S,
+    filling: Filling,
+    a: u8,
+    b: u8,
+    x: S::Block,
+    work: &mut [S::Block],
+)
     requires { ⌜ CanWrite (state (S·ReadStore .means (now store)) filling) (length (now work)) a b ⌝ }
     ensures { λ _. ⌜ Wrote (Block·BlockKind .group) (state (S·ReadStore .means (now (store .entry))) filling) a b x (state (S·ReadStore .means (now (store .exit))) filling) ⌝ }
 {
@@ -87,13 +94,7 @@ impl<S: WriteStore> Book<S> {
     }
 
     // Writes a data pair. Refused by 3 b, 4 s, 5 b and 9 b; a refusal changes nothing.
-    pub fn write(
-        &mut self,
-        a: u8,
-        b: u8,
-        x: S::Block,
-        work: &mut [S::Block],
-    ) -> Result<(), Fault>
+    pub fn write(&mut self, a: u8, b: u8, x: S::Block, work: &mut [S::Block]) -> Result<(), Fault>
         ensures answer { λ r. ⌜ r ≡ write-answer (state (S·ReadStore .means (now (self .entry) .store)) (now (self .entry) .filling)) (length (now (work .entry))) a b ⌝ }
         ensures after { λ r. ⌜ After r (Wrote (Block·BlockKind .group) (state (S·ReadStore .means (now (self .entry) .store)) (now (self .entry) .filling)) a b x (state (S·ReadStore .means (now (self .exit) .store)) (now (self .exit) .filling))) (state (S·ReadStore .means (now (self .exit) .store)) (now (self .exit) .filling) ≡ state (S·ReadStore .means (now (self .entry) .store)) (now (self .entry) .filling)) ⌝ }
         ensures same { λ r. ⌜ (isOk r ≡ false → now (self .exit) ≡ now (self .entry)) ⌝ }

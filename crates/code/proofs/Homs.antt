@@ -43,8 +43,8 @@ module _ {B : Type 0} (G : Group B) (d : B) where
   image-diagonal : (n : ℕ) (f : Blocks Bool) (m : ℕ) → diagonal G n (images f) m ≡ image (diagonal bit-group n f m)
   image-diagonal n f m =
       sum-cong G {g = λ a. image (sumTo bit-group (term n f m a) (a + 1))} n (λ a _.
-        sum-cong G {g = λ b. image (term n f m a b)} (a + 1) (λ b _. image-cond (eqb ((a + b) % n) m) (f a b) false)
-        ∙ image-sums (term n f m a) (a + 1))
+      sum-cong G {g = λ b. image (term n f m a b)} (a + 1) (λ b _. image-cond (eqb ((a + b) % n) m) (f a b) false)
+      ∙ image-sums (term n f m a) (a + 1))
       ∙ image-sums (λ a. sumTo bit-group (term n f m a) (a + 1)) n
 
   -- a codeword of bits is one of blocks

@@ -19,7 +19,7 @@ loop-k-again g c =
     let k = c .loop-k .k in
     let x = c .index-row-start .result in
     let e : x ≡ getD row (start + k) (G .none) =
-        getD-read row (start + c .from .result) x (omega arith) (c .index-row-start .is) (G .none) ∙ ap (λ k. getD row (start + k) (G .none)) (c .from .ensures) in
+    getD-read row (start + c .from .result) x (omega arith) (c .index-row-start .is) (G .none) ∙ ap (λ k. getD row (start + k) (G .none)) (c .from .ensures) in
     added-same G m m₂ (λ u v. G .sum (row-part G s k row start u v) (spot (G .none) x s k u v)) (row-part G s (k + 1) row start)
     (λ u v _ l. row-more G s row start k x (omega arith) e u v l)
     (added-more G m m₁ m₂ (row-part G s k row start) (spot (G .none) x s k) (c .loop-k .inv) (c .add-to .ensures))
