@@ -4,3 +4,6 @@ pub mod Fillings
 pub mod Cleared
 pub mod Keeps
 pub mod KeepsWrite
+pub mod Addings
+pub mod Spreads
+pub mod Writings

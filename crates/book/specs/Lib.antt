@@ -6,3 +6,4 @@ pub mod Tally
 pub mod Matches
 pub mod Racks
 pub mod Turns
+pub mod Additions

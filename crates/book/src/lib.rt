@@ -6,6 +6,7 @@ mod reads;
 pub mod racks;
 pub mod records;
 pub mod turns;
+mod writes;
 
 pub use books::Book;
 pub use racks::Rack;

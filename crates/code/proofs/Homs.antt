@@ -1,11 +1,10 @@
 -- Codewords of bits as codewords of any block kind: d where the bit is 1, and none where it is 0.
-use mathlib.Core.Path.{_≡_, refl, sym, _∙_, ap, ap₂}
+use mathlib.Core.Path.{_≡_, refl, sym, _∙_, ap}
 use mathlib.Core.Bool.{Bool, true, false, cond}
 use Prim.Native.Nat.{ℕ, zero, suc, _+_, _-_, _%_, _<_, _≤_}
 use lib.Dec.{eqb}
 use Rattle.code.specs.Bits.{bit-group, differ}
 use Rattle.code.specs.Group.{Group, sumTo}
-use Rattle.code.specs.Rebuilt.{Free}
 use Rattle.code.specs.Rules.{Blocks, of, neighbourhood, diagonal, Codeword, Agree}
 use Rattle.code.proofs.Rebuild.{stands}
 use Rattle.code.proofs.Sums.{unit-left, sum-cong}
@@ -44,8 +43,8 @@ module _ {B : Type 0} (G : Group B) (d : B) where
   image-diagonal : (n : ℕ) (f : Blocks Bool) (m : ℕ) → diagonal G n (images f) m ≡ image (diagonal bit-group n f m)
   image-diagonal n f m =
       sum-cong G {g = λ a. image (sumTo bit-group (term n f m a) (a + 1))} n (λ a _.
-        sum-cong G {g = λ b. image (term n f m a b)} (a + 1) (λ b _. image-cond (eqb ((a + b) % n) m) (f a b) false)
-        ∙ image-sums (term n f m a) (a + 1))
+      sum-cong G {g = λ b. image (term n f m a b)} (a + 1) (λ b _. image-cond (eqb ((a + b) % n) m) (f a b) false)
+      ∙ image-sums (term n f m a) (a + 1))
       ∙ image-sums (λ a. sumTo bit-group (term n f m a) (a + 1)) n
 
   -- a codeword of bits is one of blocks
