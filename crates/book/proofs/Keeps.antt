@@ -249,9 +249,9 @@ module _ {B : Type 0} (G : Group B) (t : Tally B) (m m′ : Meaning B) (s k : �
 
 module _ {B : Type 0} (G : Group B) (st st′ : State B) where
   -- a book that was just opened
-  pub keep-open : OddPrime (size-of st) → ((s : ℕ) → s < size-of st → st .store .out s ≡ false) → Opened G st st′ → Matches G (at-start G) st′
-  keep-open prime all o = record {
-    prime = subst OddPrime (sym (o .size)) prime;
+  pub keep-open : ((s : ℕ) → s < size-of st → st .store .out s ≡ false) → Opened G st st′ → Matches G (at-start G) st′
+  keep-open all o = record {
+    prime = subst OddPrime (sym (o .size)) (o .prime);
     gone = λ s l. sym (ap₂ _||_ (o .out s (omega (arith, o .size)) ∙ all s (omega (arith, o .size))) (ap (λ f. being-filled f s) (o .filling)));
     filling = sym (o .filling);
     sound = subst (SoundAt (size-of st′) (st′ .store .out)) (sym (o .filling)) tt;

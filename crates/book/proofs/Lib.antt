@@ -7,3 +7,6 @@ pub mod KeepsWrite
 pub mod Addings
 pub mod Spreads
 pub mod Writings
+pub mod Parts
+pub mod Turned
+pub mod Pushed

@@ -12,6 +12,7 @@ use Rattle.code.specs.Bits.{bit-group}
 use Rattle.code.specs.Group.{Group}
 use Rattle.code.specs.Rebuilt.{Recovered}
 use Rattle.code.specs.Rules.{Blocks, of, Codeword}
+use Rattle.code.specs.Sizes.{OddPrime}
 use Rattle.code.specs.declared.faults.Fault.{Fault}
 use Rattle.code.specs.declared.faults.Fault.the-variants.{OutAtOpen, AreaTooShort, NoSuchStation, CheckPair, AlreadyAbsent, NotOut, FillingUnderWay, TooManyAbsent, TicketRefused}
 use Rattle.store.specs.Meaning.{Meaning, Written, first}
@@ -41,8 +42,9 @@ out-at-open (Some s) = Err (OutAtOpen s)
 abbrev pub open-answer : {B : Type 0} → State B → Result (Unit {0}) Fault
 open-answer st = out-at-open (first (st .store .out) (size-of st))
 
--- zero blocks everywhere, and no filling
+-- zero blocks everywhere, and no filling; the store's size is one of the sizes
 pub record Opened {B : Type 0} (G : Group B) (st st′ : State B) : Type 0 where
+  pub prime : OddPrime (size-of st)
   pub size : size-of st′ ≡ size-of st
   pub out : (s : ℕ) → s < size-of st → st′ .store .out s ≡ st .store .out s
   pub blocks : (p q : ℕ) → p < size-of st → q < size-of st → of (st′ .store .block) p q ≡ G .none

@@ -4,6 +4,7 @@ pub mod Calls
 pub mod Opens
 pub mod Tally
 pub mod Matches
+pub mod Tickets
 pub mod Racks
 pub mod Turns
 pub mod Additions

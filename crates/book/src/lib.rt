@@ -1,10 +1,12 @@
 // The book: blocks for every pair of stations over any store for writing, stations swapped while everybody writes.
+mod abandons;
 pub mod books;
 mod fills;
 mod opens;
 mod reads;
 pub mod racks;
 pub mod records;
+pub mod serves;
 pub mod turns;
 mod writes;
 
@@ -14,6 +16,8 @@ pub use records::Filling;
 pub use records::FullTicket;
 pub use records::OpenTicket;
 pub use records::Ticket;
+pub use serves::carry_on;
+pub use serves::serve;
 pub use turns::Answer;
 pub use turns::Call;
 pub use turns::Turn;

@@ -4,6 +4,7 @@ ghost use Prim.Native.Nat.{_+_, _<_};
 ghost use Rattle.book.specs.Calls.{open-answer, Opened};
 ghost use Rattle.book.specs.Opens.{AllIn, RowCleared, RowsCleared};
 ghost use Rattle.book.specs.States.{state};
+ghost use Rattle.code.specs.Sizes.{OddPrime};
 ghost use Rattle.store.specs.Meaning.{After};
 use crate::books::Book;
 use crate::records::Filling;
@@ -30,7 +31,8 @@ fn clear_row<S: WriteStore>(store: &mut S, a: u8)
 // Puts zero at all pairs.
 fn clear<S: WriteStore>(store: &mut S)
     requires { ⌜ AllIn (S·ReadStore .means (now store)) ⌝ }
-    ensures { λ _. ⌜ RowsCleared (Block·BlockKind .group) (S·ReadStore .means (now (store .entry))) (S·ReadStore .means (now (store .entry)) .size) (S·ReadStore .means (now (store .exit))) ⌝ }
+    ensures cleared { λ _. ⌜ RowsCleared (Block·BlockKind .group) (S·ReadStore .means (now (store .entry))) (S·ReadStore .means (now (store .entry)) .size) (S·ReadStore .means (now (store .exit))) ⌝ }
+    ensures prime { λ _. ⌜ OddPrime (S·ReadStore .means (now (store .entry)) .size) ⌝ }
 {
     for a in 0..store.size().number() {
         clear_row(store, a);

@@ -4,6 +4,7 @@ ghost use mathlib.Core.Path.{_≡_};
 ghost use Prim.Native.Nat.{ℕ, _<_};
 ghost use Rattle.book.specs.Fillings.{stepped, next-of, ticket-after};
 ghost use Rattle.book.specs.States.{being-filled};
+ghost use Rattle.book.specs.Tickets.{station-of};
 ghost use Rattle.book.specs.declared.records.Ticket.the-variants.{Open, Full};
 ghost use Rattle.code.specs.Marks.{marked};
 use code::Marks;
@@ -117,5 +118,17 @@ impl FullTicket {
     {
         let FullTicket { station } = self;
         station
+    }
+}
+
+impl Ticket {
+    // Ends the ticket, and gives its station.
+    pub(crate) fn spend(self) -> u8
+        ensures { λ r. ⌜ r ≡ station-of self ⌝ }
+    {
+        match self {
+            Ticket::Open(ticket) => ticket.spend(),
+            Ticket::Full(ticket) => ticket.spend(),
+        }
     }
 }

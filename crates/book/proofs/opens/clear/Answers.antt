@@ -1,6 +1,7 @@
 use mathlib.Core.Path.{_≡_, _∙_, subst}
 use Prim.Native.Nat.{_<_}
 use native.Mathlib.Omega.{arith}
+use Rattle.code.specs.Sizes.{OddPrime}
 use Rattle.book.specs.Opens.{RowsCleared}
 use Rattle.book.proofs.Cleared.{rows-none, rows-more}
 use Rattle.book.proofs.opens.clear.Needs as need
@@ -27,4 +28,7 @@ pub returns : need.returns
 returns g c =
     let m = g .S·ReadStore .means (c .args .store .now) in
     let e : c .loop-a .a ≡ m .size = omega (arith, c .size .ensures, c .number-a-end .ensures .same) in
-    subst (λ k. RowsCleared (g .Block·BlockKind .group) m k (g .S·ReadStore .means (c .loop-a .store))) e (c .loop-a .inv)
+    record {
+      cleared = subst (λ k. RowsCleared (g .Block·BlockKind .group) m k (g .S·ReadStore .means (c .loop-a .store))) e (c .loop-a .inv);
+      prime = subst OddPrime (c .number-a-end .ensures .same ∙ c .size .ensures) (c .number-a-end .ensures .prime);
+    }

@@ -28,10 +28,11 @@ returns g c =
     let m = g .S·ReadStore .means (c .args .self .now .store) in
     let m′ = g .S·ReadStore .means (c .clear .last .store) in
     let none = g .Block·BlockKind .group .none in
-    let done = c .clear .ensures in
+    let done = c .clear .ensures .cleared in
     record {
       answer = sym (ap out-at-open (none-out m (c .none .result .bits) (c .none .ensures) (sym (c .in-rest .ensures tt))));
       after = record {
+        prime = c .clear .ensures .prime;
         size = done .size;
         out = done .out;
         blocks = λ p q lp lq. sym (of-le (m′ .block) (max p q) (min p q) (omega arith)) ∙ done .cleared (max p q) (min p q) (omega arith) (omega arith);
