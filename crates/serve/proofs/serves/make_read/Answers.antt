@@ -1,8 +1,8 @@
 use mathlib.Core.Path.{refl, sym, _∙_, ap}
 use Rattle.book.specs.Calls.{read-answer}
 use Rattle.book.specs.States.{state}
-use Rattle.book.proofs.Parts.{part-length}
-use Rattle.book.proofs.serves.make_read.Needs as need
+use Rattle.serve.proofs.Parts.{part-length}
+use Rattle.serve.proofs.serves.make_read.Needs as need
 
 pub returns-in-Err : need.returns-in-Err
 returns-in-Err g c =

@@ -1,8 +1,8 @@
 use mathlib.Core.Path.{_≡_}
 use lib.ListN.{length, take}
-use Rattle.book.specs.Matches.{CarriesOn, calls-of}
+use Rattle.serve.specs.Matches.{CarriesOn, calls-of}
 use Rattle.book.specs.States.{state, size-of}
-use Rattle.book.proofs.serves.carry_on.Given as given
+use Rattle.serve.proofs.serves.carry_on.Given as given
 
 abbrev pub Inv-loop-i : given.InvT-loop-i
 Inv-loop-i g l =

@@ -6,12 +6,12 @@ use lib.ListN.{length, getD, set}
 use Rattle.std.proofs.shelf.Lists.{map-set, getD-map, set-getD}
 use Rattle.code.specs.Group.{Group}
 use Rattle.store.specs.Meaning.{Meaning}
-use Rattle.book.specs.Matches.{Matches, CarriesOn, calls-of}
+use Rattle.serve.specs.Matches.{Matches, CarriesOn, calls-of}
 use Rattle.book.specs.States.{State, size-of}
-use Rattle.book.specs.Tally.{Tally, Promise, Promised, Holds, tallied, tally-after}
-use Rattle.book.specs.declared.turns.Turn.{Turn}
-use Rattle.book.specs.Turns.{Made}
-use Rattle.book.proofs.Turned.{Kept-turn, held, turn}
+use Rattle.serve.specs.Tally.{Tally, Promise, Promised, Holds, tallied, tally-after}
+use Rattle.serve.specs.declared.turns.Turn.{Turn}
+use Rattle.serve.specs.Turns.{Made}
+use Rattle.serve.proofs.Turned.{Kept-turn, held, turn}
 
 module _ {B : Type 0} (G : Group B) (most : ℕ) (last : Turn B) where
   pub after-push : (n : ℕ) (t : Tally B) (xs : List (Turn B)) → tally-after n t (xs ++ last ∷ []) ≡ tallied n (tally-after n t xs) (last .call) (last .answer)

@@ -8,12 +8,12 @@ use Rattle.std.specs.declared.option.Option.the-variants.{Some, None}
 use Rattle.std.proofs.shelf.Tests.{both-ways}
 use Rattle.audit.proofs.First.{first-none}
 use Rattle.store.specs.Meaning.{first}
 use Rattle.book.specs.Calls.{out-at-open, open-answer, Opened}
-use Rattle.book.specs.Matches.{Matches}
+use Rattle.serve.specs.Matches.{Matches}
 use Rattle.book.specs.States.{State, state, size-of}
-use Rattle.book.specs.Tally.{at-start, tally-after}
-use Rattle.book.proofs.Keeps.{keep-open}
-use Rattle.book.proofs.serves.serve.Needs as need
+use Rattle.serve.specs.Tally.{at-start, tally-after}
+use Rattle.serve.proofs.Keeps.{keep-open}
+use Rattle.serve.proofs.serves.serve.Needs as need
 
 -- a book that was opened has no station out
 all-in : {B : Type 0} (st : State B) → isOk (open-answer st) ≡ true → (s : ℕ) → s < size-of st → st .store .out s ≡ false

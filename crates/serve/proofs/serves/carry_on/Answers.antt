@@ -4,12 +4,12 @@ use Prim.Native.Nat.{_+_, _<_}
 use native.Mathlib.Omega.{arith}
 use lib.ListN.{length, getD, take}
 use Rattle.std.proofs.shelf.Lists.{take-more-set, take-all, getD-default}
-use Rattle.book.specs.Matches.{CarriesOn}
+use Rattle.serve.specs.Matches.{CarriesOn}
 use Rattle.book.specs.States.{state}
-use Rattle.book.specs.Turns.{Made}
-use Rattle.book.specs.declared.turns.Turn.{Turn}
-use Rattle.book.proofs.Pushed.{promise-none, carry-more, calls-stay}
-use Rattle.book.proofs.serves.carry_on.Needs as need
+use Rattle.serve.specs.Turns.{Made}
+use Rattle.serve.specs.declared.turns.Turn.{Turn}
+use Rattle.serve.proofs.Pushed.{promise-none, carry-more, calls-stay}
+use Rattle.serve.proofs.serves.carry_on.Needs as need
 
 pub loop-i-holds : need.loop-i-holds
 loop-i-holds g c =

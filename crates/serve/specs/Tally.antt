@@ -10,14 +10,14 @@ use Rattle.code.specs.Rebuilt.{absentees, Kept}
 use Rattle.code.specs.Rules.{Blocks, of, Codeword, Agree}
 use Rattle.code.specs.declared.faults.Fault.{Fault}
 use Rattle.store.specs.Meaning.{Meaning}
 use Rattle.book.specs.Fillings.{stepped}
 use Rattle.book.specs.declared.records.Filling.{Filling}
 use Rattle.book.specs.declared.records.Filling.the-variants.{Idle, At}
-use Rattle.book.specs.declared.turns.Answer.{Answer}
-use Rattle.book.specs.declared.turns.Answer.the-variants.{NotMade, Refused, Given, Accepted, Untouched}
-use Rattle.book.specs.declared.turns.Call.{Call}
-use Rattle.book.specs.declared.turns.Call.the-variants.{Write, Read, Lose, Fit, Fill, Finish, Abandon}
-use Rattle.book.specs.declared.turns.Turn.{Turn}
+use Rattle.serve.specs.declared.turns.Answer.{Answer}
+use Rattle.serve.specs.declared.turns.Answer.the-variants.{NotMade, Refused, Given, Accepted, Untouched}
+use Rattle.serve.specs.declared.turns.Call.{Call}
+use Rattle.serve.specs.declared.turns.Call.the-variants.{Write, Read, Lose, Fit, Fill, Finish, Abandon}
+use Rattle.serve.specs.declared.turns.Turn.{Turn}
 
 -- the absent stations, the filling with its next partner, and the last write to each pair
 pub record Tally (B : Type 0) : Type 0 where

@@ -1,8 +1,8 @@
 use mathlib.Core.Path.{sym, subst}
 use lib.ListN.{length}
 use Rattle.book.specs.States.{state}
-use Rattle.book.specs.Turns.{Made}
-use Rattle.book.proofs.serves.make_call.Needs as need
+use Rattle.serve.specs.Turns.{Made}
+use Rattle.serve.proofs.serves.make_call.Needs as need
 
 pub returns-in-Lose : need.returns-in-Lose
 returns-in-Lose g c =

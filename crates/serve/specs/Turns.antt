@@ -7,14 +7,14 @@ use Rattle.code.specs.Group.{Group}
 use Rattle.code.specs.Rebuilt.{Recovered}
 use Rattle.code.specs.declared.faults.Fault.{Fault}
 use Rattle.store.specs.Meaning.{Remarked}
 use Rattle.book.specs.Calls.{read-answer, write-answer, lose-answer, fit-answer, fill-answer, finish-answer, Wrote, FilledNext}
 use Rattle.book.specs.Fillings.{stepped}
 use Rattle.book.specs.States.{State, size-of, absent, being-filled, Sound}
 use Rattle.book.specs.declared.records.Filling.the-variants.{Idle, At}
-use Rattle.book.specs.declared.turns.Answer.{Answer}
-use Rattle.book.specs.declared.turns.Answer.the-variants.{NotMade, Refused, Given, Accepted, Untouched}
-use Rattle.book.specs.declared.turns.Call.{Call}
-use Rattle.book.specs.declared.turns.Call.the-variants.{Write, Read, Lose, Fit, Fill, Finish, Abandon}
+use Rattle.serve.specs.declared.turns.Answer.{Answer}
+use Rattle.serve.specs.declared.turns.Answer.the-variants.{NotMade, Refused, Given, Accepted, Untouched}
+use Rattle.serve.specs.declared.turns.Call.{Call}
+use Rattle.serve.specs.declared.turns.Call.the-variants.{Write, Read, Lose, Fit, Fill, Finish, Abandon}
 
 -- one fact for each sort of answer
 abbrev pub ByAnswer : {B : Type 0} → Answer B → Type 0 → (Fault → Type 0) → (B → Type 0) → Type 0 → Type 0 → Type 0

@@ -4,13 +4,13 @@ ghost use mathlib.Core.List.{[]};
 ghost use mathlib.Core.Path.{_≡_};
 ghost use Prim.Native.Nat.{_<_};
 ghost use lib.ListN.{getD};
-ghost use Rattle.book.specs.Racks.{Roomy};
+ghost use Rattle.serve.specs.Racks.{Roomy};
 ghost use Rattle.book.specs.Tickets.{station-of};
 ghost use Rattle.std.specs.Of.Vec.{vec-items, vec-len};
 ghost use Rattle.std.specs.Slices.{found};
-use crate::records::FullTicket;
-use crate::records::OpenTicket;
-use crate::records::Ticket;
+use book::FullTicket;
+use book::OpenTicket;
+use book::Ticket;
 use std::alloc::Global;
 
 // Tickets are spent, so a rack is emptied by `take_any` before it is ended.

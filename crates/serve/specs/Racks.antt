@@ -1,7 +1,7 @@
 -- Racks of tickets.
 use Prim.Native.Nat.{_<_}
 use Rattle.std.specs.Of.Vec.{vec-len, vec-cap}
-use Rattle.book.specs.declared.racks.Rack.{Rack}
+use Rattle.serve.specs.declared.racks.Rack.{Rack}
 
 -- there is room for one more ticket of each sort
 abbrev pub Roomy : Rack → Type 0

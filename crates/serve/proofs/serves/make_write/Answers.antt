@@ -1,8 +1,8 @@
 use mathlib.Core.Path.{sym, _∙_, ap}
 use Rattle.book.specs.Calls.{write-answer}
 use Rattle.book.specs.States.{state}
-use Rattle.book.proofs.Parts.{part-length}
-use Rattle.book.proofs.serves.make_write.Needs as need
+use Rattle.serve.proofs.Parts.{part-length}
+use Rattle.serve.proofs.serves.make_write.Needs as need
 
 pub returns-in-Ok : need.returns-in-Ok
 returns-in-Ok g c =
