@@ -11,17 +11,10 @@ use Rattle.code.specs.Bytes.{byte-group}
 use Rattle.code.specs.Faults.{written}
 use Rattle.code.specs.Group.{Group}
 use Rattle.code.specs.declared.faults.Fault.{Fault}
-use Rattle.audit.specs.Audits.{Audited}
+use Rattle.audit.specs.Audits.{Audited, verdict-text}
 use Rattle.store.specs.Images.{image-check, image-meaning}
 use Rattle.store.specs.Meaning.{Meaning}
 use Rattle.audit.specs.declared.audits.Verdict.{Verdict}
-use Rattle.audit.specs.declared.audits.Verdict.the-variants.{Sound, BrokenNeighbourhood, BrokenDiagonal}
-
--- "sound", or "broken" with S for a neighbourhood or D for a diagonal, and the rule's number
-abbrev pub verdict-text : Verdict → List ℕ
-verdict-text Sound = codes "sound"
-verdict-text (BrokenNeighbourhood h) = codes "broken S " ++ decimal h
-verdict-text (BrokenDiagonal m) = codes "broken D " ++ decimal m
 
 -- "no" and the fault
 abbrev pub refusal-text : Fault → List ℕ

@@ -6,31 +6,18 @@ ghost use lib.Dec.{ltb};
 ghost use Rattle.std.specs.Of.String.{string-bytes};
 ghost use Rattle.std.specs.Vec.{made};
 ghost use Rattle.std.specs.Written.{decimal};
-ghost use Rattle.std.specs.declared.option.Option.the-variants.{Some};
-ghost use Rattle.report.specs.Reports.{verdict-text, audit-text, listed, out-text, Inspected, Reported};
+ghost use Rattle.report.specs.Reports.{audit-text, listed, out-text, Inspected, Reported};
 use audit::Verdict;
+use audit::VerdictDisplay;
 use audit::audit;
-use store::ReadImage;
-use store::ReadImageStore;
-use store::check_image;
-use store::ReadStore;
 use code::Fault;
 use code::FaultDisplay;
 use std::alloc::AllocError;
 use std::alloc::Global;
-use std::fmt;
-
-pub impl fmt::Display for Verdict as VerdictDisplay {
-    ghost shown = { λ v. Some (verdict-text v) };
-
-    fn fmt<W: fmt::Write>(&self, f: &mut fmt::Formatter<W>) -> fmt::Result {
-        match *self {
-            Verdict::Sound => write!(f, "sound"),
-            Verdict::BrokenNeighbourhood(h) => write!(f, "broken S {h}"),
-            Verdict::BrokenDiagonal(m) => write!(f, "broken D {m}"),
-        }
-    }
-}
+use store::ReadImage;
+use store::ReadImageStore;
+use store::ReadStore;
+use store::check_image;
 
 // The line of an audit's answer, without its end.
 fn audit_line(heap: Global, answer: Result<Verdict, Fault>) -> Result<String, AllocError>
