@@ -112,8 +112,7 @@ impl<S: WriteStore> Book<S> {
     {
         let n = self.store.size().number();
         match (&mut self.filling, ticket) {
-            (Filling::At { station, next }, FullTicket { station: t })
-                if *station == t && *next == n => {
+            (Filling::At { station, next }, FullTicket { station: t }) if *station == t && *next == n => {
                 self.filling = Filling::Idle;
                 Ok(())
             }

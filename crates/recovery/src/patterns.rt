@@ -12,6 +12,7 @@ ghost use Rattle.recovery.specs.Recovery.{row-place};
 use crate::absent::absent_marks;
 use crate::rebuilds::rebuild;
 use crate::recovery::row_block;
+use store::ReadStore;
 use code::BitKind;
 use code::BlockKind;
 use code::Fault;
@@ -19,7 +20,6 @@ use code::Marks;
 use code::Pair;
 use code::Size;
 use code::pair_at;
-use store::ReadStore;
 
 // A store with one block, at the pair of two stations. Every other pair is zero, and both check stations are out.
 #[derive(Clone, Copy)]
