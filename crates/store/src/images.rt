@@ -78,6 +78,7 @@ fn bring_to_image(bytes: &mut [u8], s: u8) -> Result<(), Fault>
 }
 
 // The borrowed bytes.
+#[derive(Drop)]
 pub struct Lent<'a> {
     bytes: &'a mut [u8],
 }
@@ -128,6 +129,7 @@ impl Lent<'_> {
 }
 
 // An image that can be written.
+#[derive(Drop)]
 pub struct Image<'a> {
     lent: Lent<'a>,
     ghost sound: { isOk (image-check (lent .bytes .now)) ≡ true },

@@ -43,6 +43,7 @@ fn write_at<B: Copy>(row: &mut [B], at: usize, x: B)
 }
 
 // The borrowed row.
+#[derive(Drop)]
 pub struct Row<'a, B> {
     row: &'a mut [B],
 }
@@ -64,6 +65,7 @@ impl<B: Copy> Row<'_, B> {
 }
 
 // A table of blocks; all stations are in at first.
+#[derive(Drop)]
 pub struct Table<'a, B> {
     size: Size,
     out: Marks,
