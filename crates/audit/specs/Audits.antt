@@ -2,7 +2,10 @@
 use mathlib.Core.Path.{_≡_}
 use mathlib.Core.Bool.{Bool, false}
 use mathlib.Core.Logic.{_≢_}
+use mathlib.Core.List.{List, _++_}
 use Prim.Native.Nat.{ℕ, _<_}
+use lib.Chars.{codes}
+use Rattle.std.specs.Written.{decimal}
 use Rattle.std.specs.declared.option.Option.the-variants.{Some, None}
 use Rattle.std.specs.declared.result.Result.{Result}
 use Rattle.std.specs.declared.result.Result.the-variants.{Ok, Err}
@@ -30,3 +33,9 @@ Found G n f (BrokenDiagonal m) =
 abbrev pub Audited : {B : Type 0} → Group B → ℕ → (ℕ → Bool) → Blocks B → Result Verdict Fault → Type 0
 Audited G n absent f (Ok v) = (first absent n ≡ None) × Found G n f v
 Audited G n absent f (Err e) = (s : ℕ) × (first absent n ≡ Some s) × (e ≡ AbsentAtAudit s)
+
+-- "sound", or "broken" with S for a neighbourhood or D for a diagonal, and the rule's number
+abbrev pub verdict-text : Verdict → List ℕ
+verdict-text Sound = codes "sound"
+verdict-text (BrokenNeighbourhood h) = codes "broken S " ++ decimal h
+verdict-text (BrokenDiagonal m) = codes "broken D " ++ decimal m

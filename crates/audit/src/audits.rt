@@ -5,18 +5,32 @@ ghost use Prim.Native.Nat.{ℕ, _<_};
 ghost use lib.Dec.{ltb};
 ghost use Rattle.code.specs.Rules.{of};
 ghost use Rattle.std.specs.Results.{isOk};
-ghost use Rattle.audit.specs.Audits.{Audited, Found};
+ghost use Rattle.audit.specs.Audits.{Audited, Found, verdict-text};
+ghost use Rattle.std.specs.declared.option.Option.the-variants.{Some};
 ghost use Rattle.store.specs.Meaning.{absent-of, first, get-answer};
-use store::ReadStore;
 use code::BlockKind;
 use code::Fault;
 use code::Marks;
+use std::fmt;
+use store::ReadStore;
 
 #[derive(Clone, Copy, Debug, PartialEq, Eq)]
 pub enum Verdict {
     Sound,
     BrokenNeighbourhood(u8),
     BrokenDiagonal(u8),
+}
+
+pub impl fmt::Display for Verdict as VerdictDisplay {
+    ghost shown = { λ v. Some (verdict-text v) };
+
+    fn fmt<W: fmt::Write>(&self, f: &mut fmt::Formatter<W>) -> fmt::Result {
+        match *self {
+            Verdict::Sound => write!(f, "sound"),
+            Verdict::BrokenNeighbourhood(h) => write!(f, "broken S {h}"),
+            Verdict::BrokenDiagonal(m) => write!(f, "broken D {m}"),
+        }
+    }
 }
 
 // Is station s, below the size, out or in `also`?

@@ -3,6 +3,7 @@ pub mod audits;
 
 pub use audits::Verdict;
 pub use audits::VerdictDebug;
+pub use audits::VerdictDisplay;
 pub use audits::VerdictPartialEq;
 pub use audits::audit;
 pub use audits::audit_beside;

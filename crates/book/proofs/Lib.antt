@@ -2,11 +2,6 @@ pub mod Absents
 pub mod Datas
 pub mod Fillings
 pub mod Cleared
-pub mod Keeps
-pub mod KeepsWrite
 pub mod Addings
 pub mod Spreads
 pub mod Writings
-pub mod Parts
-pub mod Turned
-pub mod Pushed

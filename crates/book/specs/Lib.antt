@@ -2,9 +2,5 @@ pub mod States
 pub mod Fillings
 pub mod Calls
 pub mod Opens
-pub mod Tally
-pub mod Matches
 pub mod Tickets
-pub mod Racks
-pub mod Turns
 pub mod Additions

@@ -18,3 +18,4 @@ pub mod Rest
 pub mod Settled
 pub mod Placed
 pub mod Homs
+pub mod Pencil

@@ -7,3 +7,4 @@ pub mod Rules
 pub mod Rebuilt
 pub mod Bytes
 pub mod Bits
+pub mod Examples

@@ -22,5 +22,6 @@ pub use places::Pair;
 pub use places::pair_at;
 pub use places::place;
 pub use sizes::Size;
+pub use theorems::examples_stand;
 pub use theorems::rebuild_stands;
 pub use xor::ByteKind;

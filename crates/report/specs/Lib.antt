@@ -1,1 +1,3 @@
+pub mod Digits
+pub mod Pairs
 pub mod Reports

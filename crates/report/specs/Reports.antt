@@ -8,24 +8,14 @@ use Rattle.std.specs.Written.{decimal}
 use Rattle.std.specs.declared.result.Result.{Result}
 use Rattle.std.specs.declared.result.Result.the-variants.{Ok, Err}
 use Rattle.code.specs.Bytes.{byte-group}
-use Rattle.code.specs.Faults.{written}
 use Rattle.code.specs.Group.{Group}
+use Rattle.code.specs.declared.blocks.Block.{Block}
 use Rattle.code.specs.declared.faults.Fault.{Fault}
-use Rattle.audit.specs.Audits.{Audited}
+use Rattle.audit.specs.Audits.{Audited, verdict-text}
 use Rattle.store.specs.Images.{image-check, image-meaning}
 use Rattle.store.specs.Meaning.{Meaning}
 use Rattle.audit.specs.declared.audits.Verdict.{Verdict}
-use Rattle.audit.specs.declared.audits.Verdict.the-variants.{Sound, BrokenNeighbourhood, BrokenDiagonal}
-
--- "sound", or "broken" with S for a neighbourhood or D for a diagonal, and the rule's number
-abbrev pub verdict-text : Verdict → List ℕ
-verdict-text Sound = codes "sound"
-verdict-text (BrokenNeighbourhood h) = codes "broken S " ++ decimal h
-verdict-text (BrokenDiagonal m) = codes "broken D " ++ decimal m
-
--- "no" and the fault
-abbrev pub refusal-text : Fault → List ℕ
-refusal-text f = codes "no " ++ written f
+use Rattle.report.specs.Pairs.{PairLines, refusal-text}
 
 abbrev pub audit-text : Result Verdict Fault → List ℕ
 audit-text (Ok v) = verdict-text v
@@ -50,9 +40,17 @@ pub record Reported {B : Type 0} (G : Group B) (m : Meaning B) (text : List ℕ)
   pub audited : Audited G (m .size) (m .out) (m .block) answer
   pub lines : text ≡ codes "size " ++ (decimal (m .size) ++ (10 ∷ out-text (m .out) (m .size) ++ (10 ∷ audit-text answer ++ (10 ∷ []))))
 
+-- of an image: the report on what it means, then the lines of its pairs
+pub record ImageReported (m : Meaning Block) (text : List ℕ) : Type 0 where
+  pub head : List ℕ
+  pub pairs : List ℕ
+  pub reported : Reported byte-group m head
+  pub listed : PairLines m pairs
+  pub whole : text ≡ head ++ pairs
+
 -- of bytes: the line of the fault where they are no image
 abbrev pub InspectedAs : Result (Unit {0}) Fault → List ℕ → List ℕ → Type 0
-InspectedAs (Ok _) bs text = Reported byte-group (image-meaning bs) text
+InspectedAs (Ok _) bs text = ImageReported (image-meaning bs) text
 InspectedAs (Err f) bs text = text ≡ refusal-text f ++ (10 ∷ [])
 
 abbrev pub Inspected : List ℕ → List ℕ → Type 0

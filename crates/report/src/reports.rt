@@ -6,31 +6,20 @@ ghost use lib.Dec.{ltb};
 ghost use Rattle.std.specs.Of.String.{string-bytes};
 ghost use Rattle.std.specs.Vec.{made};
 ghost use Rattle.std.specs.Written.{decimal};
-ghost use Rattle.std.specs.declared.option.Option.the-variants.{Some};
-ghost use Rattle.report.specs.Reports.{verdict-text, audit-text, listed, out-text, Inspected, Reported};
+ghost use Rattle.report.specs.Reports.{audit-text, listed, out-text, Inspected, ImageReported, Reported};
+ghost use Rattle.store.specs.Images.{image-meaning};
+use crate::pairs::pair_lines;
 use audit::Verdict;
+use audit::VerdictDisplay;
 use audit::audit;
-use store::ReadImage;
-use store::ReadImageStore;
-use store::check_image;
-use store::ReadStore;
 use code::Fault;
 use code::FaultDisplay;
 use std::alloc::AllocError;
 use std::alloc::Global;
-use std::fmt;
-
-pub impl fmt::Display for Verdict as VerdictDisplay {
-    ghost shown = { λ v. Some (verdict-text v) };
-
-    fn fmt<W: fmt::Write>(&self, f: &mut fmt::Formatter<W>) -> fmt::Result {
-        match *self {
-            Verdict::Sound => write!(f, "sound"),
-            Verdict::BrokenNeighbourhood(h) => write!(f, "broken S {h}"),
-            Verdict::BrokenDiagonal(m) => write!(f, "broken D {m}"),
-        }
-    }
-}
+use store::ReadImage;
+use store::ReadImageStore;
+use store::ReadStore;
+use store::check_image;
 
 // The line of an audit's answer, without its end.
 fn audit_line(heap: Global, answer: Result<Verdict, Fault>) -> Result<String, AllocError>
@@ -93,12 +82,22 @@ pub fn report<S: ReadStore>(heap: Global, store: &S) -> Result<String, AllocErro
     format!(heap, "size {n}\n{out}\n{verdict}\n")
 }
 
+// The report on an image: as on any store, and then a line for each pair.
+fn inspect_image(heap: Global, image: &ReadImage) -> Result<String, AllocError>
+    ensures { λ r. ⌜ made r (λ t. ImageReported (image-meaning (now (image .entry) .bytes .now)) (string-bytes t)) ⌝ }
+{
+    let mut text = report(heap, image)?;
+    let pairs = pair_lines(heap, image)?;
+    text.push_str(pairs.as_str())?;
+    Ok(text)
+}
+
 // The report on the bytes of an image, or the line of the fault where they are none.
 pub fn inspect(heap: Global, bytes: &[u8]) -> Result<String, AllocError>
     ensures { λ r. ⌜ made r (λ t. Inspected (now (bytes .entry)) (string-bytes t)) ⌝ }
 {
     match check_image(bytes) {
-        Ok(()) => report(heap, &ReadImage::make(bytes)),
+        Ok(()) => inspect_image(heap, &ReadImage::make(bytes)),
         Err(fault) => format!(heap, "no {fault}\n"),
     }
 }

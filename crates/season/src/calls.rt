@@ -1,5 +1,5 @@
 // The calls that are served. A write has a text in place of its block.
-use book::Call;
+use serve::Call;
 
 // The work area that seven stations ask for.
 const AREA: usize = 56;

@@ -3,13 +3,8 @@ mod calls;
 mod texts;
 
 use audit::Verdict;
+use audit::VerdictDisplay;
 use book::Book;
-use book::Call;
-use book::Rack;
-use book::Turn;
-use book::TurnDisplay;
-use book::retire;
-use book::serve;
 use calls::begin;
 use calls::first_loss;
 use calls::second_loss;
@@ -21,14 +16,20 @@ use code::BlockKind;
 use code::ByteKind;
 use code::Fault;
 use code::FaultDisplay;
-use report::VerdictDisplay;
+use serve::Call;
+use serve::Rack;
+use serve::Turn;
+use serve::TurnDisplay;
+use serve::retire;
+use serve::serve;
 use std::alloc::AllocError;
 use std::error::AnyError;
 use store::Table;
 use store::TableRead;
 use store::TableWrite;
 use store::check_table;
-use texts::BlockDisplay;
+use texts::TextDisplay;
+use texts::in_text;
 use texts::turn;
 
 // Adds the calls to a list, with no answer yet.
@@ -58,8 +59,9 @@ fn run_calls(
 
 // Prints a line for each call, and one for the audit.
 fn tell(rt: &LibcRuntime, turns: &[Turn<Block>], audit: Result<Verdict, Fault>) -> Result<(), AnyError> {
-    for turn in turns {
-        println!(rt, "{turn}")?;
+    for made in turns {
+        let line = in_text(*made);
+        println!(rt, "{line}")?;
     }
     match audit {
         Ok(verdict) => println!(rt, "audit: {verdict}")?,

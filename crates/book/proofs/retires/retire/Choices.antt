@@ -1,5 +1,0 @@
-use Rattle.book.specs.Racks.{held}
-use Rattle.book.proofs.retires.retire.Given as given
-
-abbrev pub μ-loop-ticket : given.MeasureT-loop-ticket
-μ-loop-ticket g l = held (l .rest)

@@ -1,0 +1,5 @@
+pub mod Keeps
+pub mod KeepsWrite
+pub mod Turned
+pub mod Pushed
+pub mod Parts

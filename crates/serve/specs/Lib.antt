@@ -1,0 +1,4 @@
+pub mod Tally
+pub mod Matches
+pub mod Turns
+pub mod Racks
