@@ -6,6 +6,7 @@ use audit::Verdict;
 use audit::VerdictDisplay;
 use book::Book;
 use calls::begin;
+use calls::end;
 use calls::first_loss;
 use calls::second_loss;
 use calls::swap;
@@ -23,10 +24,13 @@ use serve::TurnDisplay;
 use serve::retire;
 use serve::serve;
 use std::alloc::AllocError;
+use std::alloc::Global;
 use std::error::AnyError;
+use store::ReadStore;
 use store::Table;
 use store::TableRead;
 use store::TableWrite;
+use store::WriteStore;
 use store::check_table;
 use texts::TextDisplay;
 use texts::in_text;
@@ -40,21 +44,49 @@ fn add(turns: &mut Vec<Turn<Block>>, calls: &[Call<&'static str>]) -> Result<(),
     Ok(())
 }
 
-// A book of seven stations over a row.
-fn book_over(row: &mut [Block]) -> Result<Book<Table<'_, Block>>, Fault> {
-    check_table(7, row)?;
-    Ok(Book::make(Table::make(7, row)))
-}
-
 // Opens the book, makes the calls, and audits it at the end.
-fn run_calls(
-    book: &mut Book<Table<'_, Block>>,
-    turns: &mut [Turn<Block>],
-    work: &mut [Block],
+fn run_calls<S: WriteStore>(
+    book: &mut Book<S>,
+    turns: &mut [Turn<S::Block>],
+    work: &mut [S::Block],
     rack: &mut Rack,
 ) -> Result<Verdict, Fault> {
     serve(book, turns, work, rack)?;
     book.audit()
+}
+
+// What the audits of two books answer in the end. A ticket of the first stays in the rack, and the second refuses it.
+fn run_both<S: WriteStore + Drop>(
+    heap: Global,
+    one: S,
+    other: S,
+    lost: &mut [Turn<S::Block>],
+    kept: &mut [Turn<S::Block>],
+    work: &mut [S::Block],
+) -> (Result<Verdict, Fault>, Result<Verdict, Fault>) {
+    let mut first = Book::make(one);
+    let mut second = Book::make(other);
+    let mut rack = Rack::new(heap);
+    let first_audit = run_calls(&mut first, lost, work, &mut rack);
+    let second_audit = run_calls(&mut second, kept, work, &mut rack);
+    retire(&mut second, rack);
+    (first_audit, second_audit)
+}
+
+// The same over two rows, as tables of seven stations.
+fn run_rows<'a>(
+    heap: Global,
+    one: &'a mut [Block],
+    other: &'a mut [Block],
+    lost: &mut [Turn<Block>],
+    kept: &mut [Turn<Block>],
+    work: &mut [Block],
+) -> Result<(Result<Verdict, Fault>, Result<Verdict, Fault>), Fault> {
+    check_table(7, one)?;
+    check_table(7, other)?;
+    let first = Table::make(7, one);
+    let second = Table::make(7, other);
+    Ok(run_both(heap, first, second, lost, kept, work))
 }
 
 // Prints a line for each call, and one for the audit.
@@ -70,7 +102,6 @@ fn tell(rt: &LibcRuntime, turns: &[Turn<Block>], audit: Result<Verdict, Fault>) 
     Ok(())
 }
 
-// The first book is lost, and a ticket of it stays in the rack: the second one refuses that ticket.
 fn run(rt: &LibcRuntime) -> Result<(), AnyError> {
     let heap = rt.alloc();
     let mut lost = Vec::new(heap);
@@ -80,37 +111,27 @@ fn run(rt: &LibcRuntime) -> Result<(), AnyError> {
     add(&mut kept, &first_loss())?;
     add(&mut kept, &second_loss())?;
     add(&mut kept, &third_loss())?;
-    for station in [0, 4] {
-        add(&mut kept, &swap(station))?;
-    }
-    add(&mut kept, &calls::end())?;
+    add(&mut kept, &swap(0))?;
+    add(&mut kept, &swap(4))?;
+    add(&mut kept, &end())?;
+    let mut one = vec![in heap; Block::zero(); 28]?;
+    let mut other = vec![in heap; Block::zero(); 28]?;
     let mut work = vec![in heap; Block::zero(); 56]?;
-    let mut first_row = vec![in heap; Block::zero(); 28]?;
-    let mut second_row = vec![in heap; Block::zero(); 28]?;
-    let (Ok(mut first), Ok(mut second)) = (
-        book_over(first_row.as_mut_slice()),
-        book_over(second_row.as_mut_slice()),
-    ) else {
-        return Err("no table".into());
-    };
-    let mut rack = Rack::new(heap);
-    let first_audit = run_calls(
-        &mut first,
+    let ran = run_rows(
+        heap,
+        one.as_mut_slice(),
+        other.as_mut_slice(),
         lost.as_mut_slice(),
-        work.as_mut_slice(),
-        &mut rack,
-    );
-    let second_audit = run_calls(
-        &mut second,
         kept.as_mut_slice(),
         work.as_mut_slice(),
-        &mut rack,
     );
-    retire(&mut second, rack);
+    let Ok((first, second)) = ran else {
+        return Err("no table".into());
+    };
     println!(rt, "the first book")?;
-    tell(rt, lost.as_slice(), first_audit)?;
+    tell(rt, lost.as_slice(), first)?;
     println!(rt, "the second book")?;
-    tell(rt, kept.as_slice(), second_audit)
+    tell(rt, kept.as_slice(), second)
 }
 
 fn main(rt: LibcRuntime) -> Result<(), AnyError> {
