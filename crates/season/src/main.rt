@@ -90,7 +90,11 @@ fn run_rows<'a>(
 }
 
 // Prints a line for each call, and one for the audit.
-fn tell(rt: &LibcRuntime, turns: &[Turn<Block>], audit: Result<Verdict, Fault>) -> Result<(), AnyError> {
+fn tell(
+    rt: &LibcRuntime,
+    turns: &[Turn<Block>],
+    audit: Result<Verdict, Fault>,
+) -> Result<(), AnyError> {
     for made in turns {
         let line = in_text(*made);
         println!(rt, "{line}")?;

@@ -1,6 +1,6 @@
 // The end of a rack of tickets.
-use book::Book;
 use crate::racks::Rack;
+use book::Book;
 use store::ReadStore;
 use store::WriteStore;
 

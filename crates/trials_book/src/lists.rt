@@ -28,14 +28,44 @@ fn standing() -> [(Call<Block>, &'static str); 25] {
         (Call::Fit { station: 1 }, "no 7 b 1"),
         (write(0, 0, 1), "ok"),
         (write(2, 1, 2), "ok"),
-        (Call::Write { a: 5, b: 9, block: block(3), area: 39 }, "no 3 b 39"),
-        (Call::Write { a: 0, b: 0, block: block(3), area: 0 }, "no 3 b 0"),
+        (
+            Call::Write {
+                a: 5,
+                b: 9,
+                block: block(3),
+                area: 39,
+            },
+            "no 3 b 39",
+        ),
+        (
+            Call::Write {
+                a: 0,
+                b: 0,
+                block: block(3),
+                area: 0,
+            },
+            "no 3 b 0",
+        ),
         (write(5, 9, 3), "no 4 s 5"),
         (write(4, 9, 3), "no 4 s 9"),
         (write(0, 3, 3), "no 5 b 3"),
         (write(4, 3, 3), "no 5 b 4"),
-        (Call::Read { a: 5, b: 9, area: 39 }, "no 3 b 39"),
-        (Call::Read { a: 0, b: 0, area: 0 }, "no 3 b 0"),
+        (
+            Call::Read {
+                a: 5,
+                b: 9,
+                area: 39,
+            },
+            "no 3 b 39",
+        ),
+        (
+            Call::Read {
+                a: 0,
+                b: 0,
+                area: 0,
+            },
+            "no 3 b 0",
+        ),
         (read(5, 9), "no 4 s 5"),
         (read(4, 9), "no 4 s 9"),
         (read(0, 3), "no 5 b 3"),
@@ -45,8 +75,20 @@ fn standing() -> [(Call<Block>, &'static str); 25] {
         (read(2, 2), "0"),
         (fill(1), "not made"),
         (Call::Finish { station: 1 }, "not made"),
-        (Call::Abandon { station: 1, full: false }, "not made"),
-        (Call::Abandon { station: 1, full: true }, "not made"),
+        (
+            Call::Abandon {
+                station: 1,
+                full: false,
+            },
+            "not made",
+        ),
+        (
+            Call::Abandon {
+                station: 1,
+                full: true,
+            },
+            "not made",
+        ),
     ]
 }
 
@@ -65,13 +107,25 @@ fn absent() -> [(Call<Block>, &'static str); 32] {
         (Call::Lose { station: 1 }, "no 6 b 1"),
         (Call::Lose { station: 3 }, "ok"),
         (Call::Fit { station: 3 }, "no 8 b 1"),
-        (Call::Fill { station: 1, area: 39 }, "no 3 b 39"),
+        (
+            Call::Fill {
+                station: 1,
+                area: 39,
+            },
+            "no 3 b 39",
+        ),
         (fill(1), "ok"),
         (Call::Finish { station: 1 }, "not made"),
         (write(1, 0, 5), "ok"),
         (Call::Lose { station: 4 }, "ok"),
         (fill(1), "no 9 b 3"),
-        (Call::Fill { station: 1, area: 3 }, "no 3 b 3"),
+        (
+            Call::Fill {
+                station: 1,
+                area: 3,
+            },
+            "no 3 b 3",
+        ),
         (Call::Fit { station: 3 }, "no 8 b 1"),
         (write(0, 0, 6), "no 9 b 3"),
         (write(0, 4, 6), "no 5 b 4"),
@@ -79,9 +133,27 @@ fn absent() -> [(Call<Block>, &'static str); 32] {
         (read(2, 2), "0"),
         (read(1, 0), "no 9 b 3"),
         (read(2, 1), "no 9 b 3"),
-        (Call::Abandon { station: 1, full: true }, "not made"),
-        (Call::Abandon { station: 1, full: false }, "ok"),
-        (Call::Abandon { station: 1, full: false }, "not made"),
+        (
+            Call::Abandon {
+                station: 1,
+                full: true,
+            },
+            "not made",
+        ),
+        (
+            Call::Abandon {
+                station: 1,
+                full: false,
+            },
+            "ok",
+        ),
+        (
+            Call::Abandon {
+                station: 1,
+                full: false,
+            },
+            "not made",
+        ),
         (Call::Fit { station: 3 }, "no 9 b 3"),
         (write(0, 2, 6), "no 9 b 3"),
         (read(2, 0), "0"),
@@ -101,7 +173,13 @@ fn filled_up() -> [(Call<Block>, &'static str); 38] {
         (fill(1), "ok"),
         (fill(1), "ok"),
         (fill(1), "not made"),
-        (Call::Abandon { station: 1, full: false }, "not made"),
+        (
+            Call::Abandon {
+                station: 1,
+                full: false,
+            },
+            "not made",
+        ),
         (Call::Lose { station: 3 }, "ok"),
         (Call::Lose { station: 4 }, "ok"),
         (read(1, 0), "no 9 b 3"),
@@ -147,7 +225,11 @@ fn text(heap: Global, answer: Answer<Block>) -> Result<String, AllocError> {
 }
 
 // All the calls, or those alone that change something.
-fn listed(heap: Global, cases: &[(Call<Block>, &'static str)], all: bool) -> Result<Vec<Turn<Block>>, AllocError> {
+fn listed(
+    heap: Global,
+    cases: &[(Call<Block>, &'static str)],
+    all: bool,
+) -> Result<Vec<Turn<Block>>, AllocError> {
     let mut turns = Vec::new(heap);
     for (call, text) in cases {
         if all || *text == "ok" {
@@ -157,7 +239,11 @@ fn listed(heap: Global, cases: &[(Call<Block>, &'static str)], all: bool) -> Res
     Ok(turns)
 }
 
-fn answers(heap: Global, turns: &[Turn<Block>], cases: &[(Call<Block>, &'static str)]) -> Result<(), Fail> {
+fn answers(
+    heap: Global,
+    turns: &[Turn<Block>],
+    cases: &[(Call<Block>, &'static str)],
+) -> Result<(), Fail> {
     check_eq(turns.len(), cases.len())?;
     for (made, (_, expected)) in turns.iter().zip(cases.iter()) {
         let told = text(heap, made.answer)?;

@@ -62,22 +62,23 @@ pub fn turn(call: Call<Block>) -> Turn<Block> {
     }
 }
 
-// Serves the calls, ends what tickets are left, and audits the book before that.
-fn serve_on<S: WriteStore>(
+// Serves the calls on a new book over a store, audits it, and ends what tickets are left.
+fn serve_on<S: WriteStore + Drop>(
     heap: Global,
-    book: &mut Book<S>,
+    store: S,
     turns: &mut [Turn<S::Block>],
     work: &mut [S::Block],
 ) -> Result<Verdict, Fault> {
+    let mut book = Book::make(store);
     let mut rack = Rack::new(heap);
-    let opened = serve(book, turns, work, &mut rack);
+    let opened = serve(&mut book, turns, work, &mut rack);
     let verdict = book.audit();
-    retire(book, rack);
+    retire(&mut book, rack);
     opened?;
     verdict
 }
 
-// The same on a new book over the bytes of an image.
+// The same over the bytes of an image.
 pub fn serve_image(
     heap: Global,
     bytes: &mut [u8],
@@ -85,11 +86,10 @@ pub fn serve_image(
 ) -> Result<Result<Verdict, Fault>, Fail> {
     let mut work = vec![in heap; block(0); AREA]?;
     check_image(bytes)?;
-    let mut book = Book::make(Image::make(bytes));
-    Ok(serve_on(heap, &mut book, turns, work.as_mut_slice()))
+    Ok(serve_on(heap, Image::make(bytes), turns, work.as_mut_slice()))
 }
 
-// And on one over a row of blocks.
+// And over a row of blocks.
 pub fn serve_table(
     heap: Global,
     row: &mut [Block],
@@ -97,8 +97,7 @@ pub fn serve_table(
 ) -> Result<Result<Verdict, Fault>, Fail> {
     let mut work = vec![in heap; block(0); AREA]?;
     check_table(5, row)?;
-    let mut book = Book::make(Table::make(5, row));
-    Ok(serve_on(heap, &mut book, turns, work.as_mut_slice()))
+    Ok(serve_on(heap, Table::make(5, row), turns, work.as_mut_slice()))
 }
 
 // An image of five stations with all in, and like bytes in its blocks.
