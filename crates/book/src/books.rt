@@ -19,6 +19,7 @@ use store::ReadStore;
 use store::WriteStore;
 
 // A book over a store, with the record of the filling.
+#[derive(Drop)]
 pub struct Book<S> {
     pub(crate) store: S,
     pub(crate) filling: Filling,

@@ -2,11 +2,12 @@
 ghost use mathlib.Core.Bool.{true};
 ghost use mathlib.Core.List.{[]};
 ghost use mathlib.Core.Path.{_≡_};
-ghost use Prim.Native.Nat.{_<_};
+ghost use Prim.Native.Nat.{_+_, _<_};
 ghost use lib.ListN.{getD};
-ghost use Rattle.serve.specs.Racks.{Roomy};
+ghost use Rattle.serve.specs.Racks.{Roomy, held};
 ghost use Rattle.book.specs.Tickets.{station-of};
 ghost use Rattle.std.specs.Of.Vec.{vec-items, vec-len};
+ghost use Rattle.std.specs.Options.{Cases as BySome};
 ghost use Rattle.std.specs.Slices.{found};
 use book::FullTicket;
 use book::OpenTicket;
@@ -111,7 +112,9 @@ impl Rack {
     }
 
     // Any ticket, while there is one.
-    pub fn take_any(&mut self) -> Option<Ticket> {
+    pub fn take_any(&mut self) -> Option<Ticket>
+        ensures { λ r. ⌜ BySome r ((held (now (self .entry)) ≡ 0) × (held (now (self .exit)) ≡ 0)) (λ _. held (now (self .exit)) + 1 ≡ held (now (self .entry))) ⌝ }
+    {
         match self.open.pop() {
             Some(ticket) => Some(Ticket::Open(ticket)),
             None => match self.full.pop() {
@@ -119,5 +122,14 @@ impl Rack {
                 None => None,
             },
         }
+    }
+
+    // Ends a rack that holds no ticket.
+    pub fn end(self)
+        requires { ⌜ held self ≡ 0 ⌝ }
+    {
+        let Rack { open, full } = self;
+        open.destroy_empty();
+        full.destroy_empty();
     }
 }
