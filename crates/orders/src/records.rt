@@ -23,7 +23,7 @@ pub enum Reading<'a> {
     // a refused record of `len` bytes, after which the next one is read
     Passed { fault: Fault, len: usize },
     // a refused record, after which nothing is read
-    Ended { fault: Fault },
+    Ended(Fault),
 }
 
 // The order of a record's letter and fields, where the record begins at an offset. Refused by 17 r, then by 18 r.
@@ -52,14 +52,10 @@ fn read_front(left: &[u8], at: usize) -> Reading<'_>
     ensures { λ r. ⌜ read-as r ≡ front-answer (now (left .entry)) at ⌝ }
 {
     let [version, high, low, rest @ ..] = left else {
-        return Reading::Ended {
-            fault: Fault::CutShort(at),
-        };
+        return Reading::Ended(Fault::CutShort(at));
     };
     if *version != 1 {
-        return Reading::Ended {
-            fault: Fault::WrongVersion(at),
-        };
+        return Reading::Ended(Fault::WrongVersion(at));
     }
     let len = usize::from(u16::from_be_bytes([*high, *low]));
     if len == 0 {
@@ -69,19 +65,12 @@ fn read_front(left: &[u8], at: usize) -> Reading<'_>
         };
     }
     if rest.len() < len {
-        return Reading::Ended {
-            fault: Fault::CutShort(at),
-        };
+        return Reading::Ended(Fault::CutShort(at));
     }
+    let whole = 3 + len;
     match read_order(&rest[0..len], at) {
-        Ok(order) => Reading::Taken {
-            order,
-            len: 3 + len,
-        },
-        Err(fault) => Reading::Passed {
-            fault,
-            len: 3 + len,
-        },
+        Ok(order) => Reading::Taken { order, len: whole },
+        Err(fault) => Reading::Passed { fault, len: whole },
     }
 }
 
@@ -91,9 +80,7 @@ pub fn read_record(input: &[u8], at: usize) -> Reading<'_>
     ensures { λ r. ⌜ read-as r ≡ record-answer (now (input .entry)) at ⌝ }
 {
     if at > input.len() {
-        return Reading::Ended {
-            fault: Fault::CutShort(at),
-        };
+        return Reading::Ended(Fault::CutShort(at));
     }
     read_front(&input[at..], at)
 }
