@@ -1,0 +1,4 @@
+use Rattle.orders.proofs.lines.+append_number.Given as given
+
+abbrev pub μ-append-number : given.MeasureT-append-number
+μ-append-number l = l .n
