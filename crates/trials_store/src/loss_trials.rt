@@ -17,7 +17,6 @@ use std::test::*;
 use store::Image;
 use store::ImageRead;
 use store::ImageWrite;
-use store::ReadStore;
 use store::WriteStore;
 use store::check_image;
 

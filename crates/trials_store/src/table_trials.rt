@@ -15,7 +15,6 @@ use code::ByteKind;
 use code::FaultDebug;
 use code::FaultPartialEq;
 use std::test::*;
-use store::ReadStore;
 use store::Table;
 use store::TableRead;
 use store::TableWrite;
