@@ -1,9 +1,3 @@
-// Trials of the book on examples: what is refused, what a refusal leaves, and stations swapped while writes go on.
-#[cfg(test)]
-mod lists;
-#[cfg(test)]
-mod samples;
-#[cfg(test)]
-mod swaps;
+// Trials of the book on examples: tickets are handed back, and a refusal leaves the caller's place and work area.
 #[cfg(test)]
 mod tickets;
