@@ -1,4 +1,6 @@
 // The book: blocks for every pair of stations over any store for writing, stations swapped while everybody writes.
+#![tactic(auto)]
+
 mod abandons;
 pub mod books;
 mod fills;

@@ -1,4 +1,6 @@
 // The code of the pair book: sizes, pairs and places, sets of stations, and the sum rules.
+#![tactic(auto)]
+
 pub mod marks;
 pub mod places;
 pub mod sizes;

@@ -1,4 +1,6 @@
 // Compares a plain model of the pair book with the library, and prints how much was compared.
+#![tactic(auto)]
+
 mod answers;
 mod areas;
 mod blocks;

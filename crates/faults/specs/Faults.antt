@@ -1,5 +1,6 @@
 -- What each refusal says on a fault slip: its number, the layer in which it began, and its place.
 use Rattle.std.specs.Prelude.{ℕ, Bool, ◌&&◌, List, [], ◌∷◌, ◌++◌, decimal, ◌==◌}
+use Rattle.std.specs.Cmp.{IsPartialEquivalence, partial_equiv_from_equiv, nat_eq_equiv, on_per, and_per}
 use Rattle.faults.specs.declared.faults.Fault.{Fault}
 use Rattle.faults.specs.declared.faults.Fault.TheVariants.{NotASize, OutAtOpen, AreaTooShort, NoSuchStation, CheckPair, AlreadyAbsent, AlreadyOut, NotOut, AlreadyIn, FillingUnderWay, TooManyAbsent, TicketRefused, StationOut, AbsentAtAudit, WrongLength, WrongVersion, StrayMarks, CutShort, UnknownLetter, WrongRecordLength, SessionTooLong}
 use Rattle.faults.specs.declared.faults.Layer.{Layer}
@@ -58,3 +59,9 @@ written f = decimal (number_of f) ++ (32 ∷ letter_of (layer_of f) ∷ 32 ∷ d
 -- they have the same number, layer and place
 abbrev pub same_fault : Fault → Fault → Bool
 same_fault f g = number_of f == number_of g && letter_of (layer_of f) == letter_of (layer_of g) && place_of f == place_of g
+
+-- so it holds both ways round, and along a chain
+pub same_fault_laws : IsPartialEquivalence same_fault
+same_fault_laws =
+    let same_number = partial_equiv_from_equiv nat_eq_equiv in
+    and_per (and_per (on_per number_of same_number) (on_per (λ f. letter_of (layer_of f)) same_number)) (on_per place_of same_number)

@@ -1,8 +1,6 @@
 // Refusals. Each case has a number, the layer it began in and a place; upper layers pass a fault on whole.
 ghost use Rattle.std.specs.Prelude.{◌≡◌, Some};
-ghost use Rattle.faults.specs.Faults.{number_of, layer_of, place_of, letter_of, same_fault, written};
-ghost use Rattle.std.specs.Cmp.Rules.{comparing};
-ghost use Rattle.std.proofs.Common.{rules};
+ghost use Rattle.faults.specs.Faults.{number_of, layer_of, place_of, letter_of, same_fault, same_fault_laws, written};
 
 use std::fmt;
 
@@ -173,7 +171,7 @@ impl fmt::Debug for Fault {
 impl PartialEq for Fault {
     ghost eq = { λ f g. same_fault f g };
 
-    ghost laws = { Prim.search (comparing, rules) };
+    ghost laws = { same_fault_laws };
 
     fn eq(&self, other: &Fault) -> bool {
         self.number() == other.number()

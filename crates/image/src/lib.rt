@@ -1,4 +1,6 @@
 // Images: stores over bytes, for reading and for writing.
+#![tactic(auto)]
+
 pub mod images;
 mod layout;
 pub mod read_images;

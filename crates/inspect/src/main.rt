@@ -1,4 +1,6 @@
 // Inspects a saved image: reads it from standard input and prints what it holds.
+#![tactic(auto)]
+
 use std::io::Read;
 
 // One byte more than the longest image has.

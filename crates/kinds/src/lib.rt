@@ -1,4 +1,6 @@
 // Block kinds: what a pair may hold.
+#![tactic(auto)]
+
 pub mod bits;
 pub mod blocks;
 pub mod kinds;

@@ -1,4 +1,6 @@
 // Orders as bytes, and answers as lines of text.
+#![tactic(auto)]
+
 pub mod lines;
 pub mod records;
 

@@ -1,4 +1,6 @@
 // Lost blocks from the others, over any store for reading: recovery of a pair, both rows of two lost stations, patterns.
+#![tactic(auto)]
+
 pub mod absent;
 pub mod patterns;
 pub mod rebuilds;

@@ -1,4 +1,6 @@
 // Reports in text on what a store or an image holds.
+#![tactic(auto)]
+
 pub mod digits;
 pub mod pairs;
 pub mod reports;

@@ -1,4 +1,6 @@
 // Serves two lists of calls on books over tables of seven stations, and prints each call with its answer.
+#![tactic(auto)]
+
 mod calls;
 mod texts;
 

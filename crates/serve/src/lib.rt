@@ -1,4 +1,6 @@
 // Lists of calls on a book, and what its client is promised over every one of them.
+#![tactic(auto)]
+
 pub mod racks;
 pub mod retires;
 pub mod serves;

@@ -1,4 +1,6 @@
 // Answers the orders on standard input: the number of stations in one byte, then records; a line for each.
+#![tactic(auto)]
+
 use std::io::{Read, Write};
 
 // One byte more than a session may have.

@@ -1,4 +1,6 @@
 // Stores: who holds the blocks of all pairs. Their interfaces, what they refuse, and the table.
+#![tactic(auto)]
+
 pub mod refusals;
 pub mod stores;
 pub mod tables;

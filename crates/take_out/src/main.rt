@@ -1,4 +1,6 @@
 // Shows an image before and after its stations 1 and 4 are taken out: the blocks that are rebuilt are the ones it had.
+#![tactic(auto)]
+
 use image::{Image, check_image};
 use std::io::Read;
 use store::WriteStore;

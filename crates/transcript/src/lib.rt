@@ -1,4 +1,6 @@
 // Whole sessions: the orders that bytes hold, made on a book, and the lines that answer them.
+#![tactic(auto)]
+
 mod performs;
 mod reads;
 pub mod replaces;

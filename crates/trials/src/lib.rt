@@ -1,4 +1,6 @@
 // Trials: what the code, stores and audits do on examples, each compared with a plain way that shares nothing with them.
+#![tactic(auto)]
+
 #[cfg(test)]
 mod audits;
 #[cfg(test)]

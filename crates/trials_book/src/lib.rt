@@ -1,4 +1,6 @@
 // Trials of the book on examples: what each call refuses, tickets that are handed back, and lists of calls.
+#![tactic(auto)]
+
 #[cfg(test)]
 mod lists;
 #[cfg(test)]

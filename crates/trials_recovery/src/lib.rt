@@ -1,5 +1,7 @@
 // Trials of recovery, patterns and show on examples. The lawful blocks come from tables of patterns that were found by
 // plain elimination over the sum rules.
+#![tactic(auto)]
+
 #[cfg(test)]
 mod areas;
 #[cfg(test)]

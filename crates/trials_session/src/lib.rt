@@ -1,4 +1,6 @@
 // Trials of records, lines and whole sessions on examples.
+#![tactic(auto)]
+
 #[cfg(test)]
 mod fault_trials;
 #[cfg(test)]

@@ -1,4 +1,6 @@
 // Trials of the stores for writing on examples: what they refuse, and what a put, a take out and a bring in change.
+#![tactic(auto)]
+
 #[cfg(test)]
 mod calls;
 #[cfg(test)]

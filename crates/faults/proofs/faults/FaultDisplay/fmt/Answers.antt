@@ -17,4 +17,4 @@ pub returns-clause-writes : goal.returns-clause-writes
 returns-clause-writes g c plain ok =
     let letter : encode c.letter-letter.result ≡ c.letter-letter.result ∷ [] = ap encode c.letter-letter.ensures ∙ letter_encoded c.layer.result ∙ ap (λ l. l ∷ []) (sym c.letter-letter.ensures) in
     let text : decimal c.number-number.result ++ (32 ∷ encode c.letter-letter.result ++ (32 ∷ decimal c.place-place.result)) ≡ written c.args.self.now = cc in
-    subst (λ t. HasWritten g.W.Write.write_str_gives c.args.f.now t c.write.new.self) text (c.write.ensures.shows plain ok)
+    subst (λ t. HasWritten g.W.Write.write_str_gives c.args.f.now t c.write.new.self) text (c.write.ensures.writes plain ok)
