@@ -8,7 +8,7 @@ pub mod Diagonals
 pub mod Lost
 pub mod Only
 pub mod Exists
-pub mod Hidden
+pub mod Unsettled
 pub mod Inverse
 pub mod Rebuild
 pub mod Absent

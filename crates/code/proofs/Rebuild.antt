@@ -11,7 +11,7 @@ use Rattle.code.proofs.Walk.{Walk, walk}
 use Rattle.code.proofs.Rows.{ordered, neighbourhood_none, diagonal_none}
 use Rattle.code.proofs.Only.{only_one}
 use Rattle.code.proofs.Exists.{rebuilt, off_lost, codeword}
-use Rattle.code.proofs.Hidden.{hidden}
+use Rattle.code.proofs.Unsettled.{hidden}
 use Rattle.code.proofs.Inverse.{inverse}
 
 -- the stations that are absent, where there are two

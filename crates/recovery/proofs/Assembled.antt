@@ -125,8 +125,8 @@ module _ {B : Type 0} (G : Group B) (n : ℕ) (prime : OddPrime n) (absent : ℕ
     unfolding drift
     drift_is k lk di dj =
         let t : ℕ = w.time k in
-        let lt : t < n = w.in-time k lk in
-        let here : w.at t ≡ k = w.at-time k lk in
+        let lt : t < n = w.in_time k lk in
+        let here : w.at t ≡ k = w.at_time k lk in
         let t0 : t ≢ 0 = (λ e. di (sym here ∙ ap w.at e ∙ w.start)) in
         let t1 : t ≢ 1 = (λ e. dj (sym here ∙ ap w.at e ∙ w.second)) in
         let p : t - 2 + 2 ≡ t = omega arith in

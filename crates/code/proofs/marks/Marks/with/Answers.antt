@@ -19,12 +19,12 @@ returns c =
     let turned : not (marked c.args.self.bits c.args.s) ≡ c.args.on = ap not (sym c.has.ensures) ∙ flips c.has.result c.args.on c.if-has-on.false in
     record {
       marks = λ l k.
-          ap (λ q. marked q k) (c.from-bits.ensures ∙ ap (bit_xor c.args.self.bits) (one_shl c.args.s 32 l))
+          ap (λ q. marked q k) (c.from_bits.ensures ∙ ap (bit_xor c.args.self.bits) (one_shl c.args.s 32 l))
           ∙ toggled c.args.self.bits c.args.s k
           ∙ grind (arith, nat_tests);
       low = λ n l e.
           let w : c.args.s < 32 = c.if-s-ge32.false in
-          ap (λ q. q / 2 ^ n) (c.from-bits.ensures ∙ ap (bit_xor c.args.self.bits) (one_shl c.args.s 32 w))
+          ap (λ q. q / 2 ^ n) (c.from_bits.ensures ∙ ap (bit_xor c.args.self.bits) (one_shl c.args.s 32 w))
           ∙ xor_shr c.args.self.bits (2 ^ c.args.s) n ∙ ap₂ bit_xor e (div-eq_of_lt (pow_below c.args.s n l));
       same = λ l. let m = c.if-s-ge32.false in absurd (omega arith);
     }

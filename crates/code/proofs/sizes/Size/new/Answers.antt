@@ -4,9 +4,9 @@ use Rattle.code.specs.Sizes.{among, sizes}
 use Rattle.code.proofs.Primes.{listed_prime, prime_listed}
 use Rattle.code.proofs.sizes.Size.new.Goals as goal
 
-pub returns-then-is-listed : goal.returns-then-is-listed
-returns-then-is-listed c = (refl, listed_prime c.args.number (sym c.if-is-listed.ensures))
+pub returns-then-is_listed : goal.returns-then-is_listed
+returns-then-is_listed c = (refl, listed_prime c.args.number (sym c.if-is_listed.ensures))
 
-pub returns-else-is-listed : goal.returns-else-is-listed
-returns-else-is-listed c =
-    (refl, λ p. both_ways (among c.args.number sizes) (sym c.if-is-listed.ensures) (prime_listed c.args.number p))
+pub returns-else-is_listed : goal.returns-else-is_listed
+returns-else-is_listed c =
+    (refl, λ p. both_ways (among c.args.number sizes) (sym c.if-is_listed.ensures) (prime_listed c.args.number p))
