@@ -6,10 +6,10 @@ use Rattle.code.proofs.Placed.{pairs_few, place_below}
 use Rattle.recovery.specs.Recovery.{row_place_lem}
 use Rattle.recovery.proofs.Laid.{pair_below, lay_bit}
 use Rattle.recovery.proofs.patterns.lay_bits.Goals as goal
-use Rattle.recovery.proofs.patterns.lay_bits.Goals.{in-Some, in-default}
+use Rattle.recovery.proofs.patterns.lay_bits.Goals.{in-Some, in_default}
 
-pub bit-of-requires : goal.bit-of-requires
-bit-of-requires c =
+pub bit_of-requires : goal.bit_of-requires
+bit_of-requires c =
     let n = c.number-n.result in
     let e : pairs n ≡ c.pairs-p-end.result = ap pairs c.number-n.ensures.same ∙ sym c.pairs-p-end.ensures in
     let l : c.loop-p.p < pairs n = omega arith in
@@ -25,12 +25,12 @@ loop-p-preserved c =
     let e : pairs n ≡ c.pairs-p-end.result = ap pairs c.number-n.ensures.same ∙ sym c.pairs-p-end.ensures in
     let l : p < pairs n = omega arith in
     let bit : ℕ → ℕ → Bool = λ x y. leb n (x + 2) && get_or rows (row_place_lem n c.args.two x y) false in
-    elim c.match-pair-at.branch [
+    elim c.match-pair_at.branch [
       | in-Some w ↦ (
-        λ x y lx ly h. ap (λ xs. get_or xs (pair_place x y) false) w.into-is ∙ lay_bit n p into bit w.in-Some.pair w.in-Some.ensures.1 (omega arith) c.loop-p.invariant.0 w.bit-of.result w.bit-of.ensures x y lx ly h,
-        λ q h. ap (λ xs. get_or xs q false) w.into-is ∙ get_or-set_other into p q w.bit-of.result false (omega arith) ∙ c.loop-p.invariant.1 q h,
+        λ x y lx ly h. ap (λ xs. get_or xs (pair_place x y) false) w.into-is ∙ lay_bit n p into bit w.in-Some.pair w.in-Some.ensures.1 (omega arith) c.loop-p.invariant.0 w.bit_of.result w.bit_of.ensures x y lx ly h,
+        λ q h. ap (λ xs. get_or xs q false) w.into-is ∙ get_or-set_other into p q w.bit_of.result false (omega arith) ∙ c.loop-p.invariant.1 q h,
       )
-      | in-default w ↦ let few = pairs_few n c.number-n.ensures.prime.1 in absurd (omega (arith, few, w.in-default.ensures))
+      | in_default w ↦ let few = pairs_few n c.number-n.ensures.prime.1 in absurd (omega (arith, few, w.in_default.ensures))
     ]
 
 pub returns : goal.returns

@@ -7,8 +7,8 @@ use Rattle.store.specs.Meaning.{absent_of}
 use Rattle.recovery.proofs.Absence.{marks_right, marks_cover, answer_cong, answer_within}
 use Rattle.recovery.proofs.recovery.recover_beside.Goals as goal
 
-pub recovered-block-requires : goal.recovered-block-requires
-recovered-block-requires g c =
+pub recovered_block-requires : goal.recovered_block-requires
+recovered_block-requires g c =
     let m = g.S.ReadStore.means c.args.store.now in
     let marks = c.absent-marks-absent.result.bits in
     let e : c.number-n.result ≡ m.size = c.number-n.ensures.same ∙ c.size.ensures in
@@ -21,8 +21,8 @@ recovered-block-requires g c =
       long = omega arith;
     }
 
-pub returns-then-is-ok : goal.returns-then-is-ok
-returns-then-is-ok g c =
+pub returns-then-is_ok : goal.returns-then-is_ok
+returns-then-is_ok g c =
     let m = g.S.ReadStore.means c.args.store.now in
     let marks = c.absent-marks-absent.result.bits in
     let e : c.number-n.result ≡ m.size = c.number-n.ensures.same ∙ c.size.ensures in
@@ -36,8 +36,8 @@ returns-then-is-ok g c =
       work = λ no. absurd (both_ways (is_ok c.may-recover-answer.result) no ok);
     }
 
-pub returns-else-is-ok : goal.returns-else-is-ok
-returns-else-is-ok g c =
+pub returns-else-is_ok : goal.returns-else-is_ok
+returns-else-is_ok g c =
     let m = g.S.ReadStore.means c.args.store.now in
     let marks = c.absent-marks-absent.result.bits in
     let e : c.number-n.result ≡ m.size = c.number-n.ensures.same ∙ c.size.ensures in

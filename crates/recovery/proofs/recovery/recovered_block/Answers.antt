@@ -6,8 +6,8 @@ use Rattle.recovery.specs.Recovery.{Two, standing, row_place_lem}
 use Rattle.recovery.proofs.Picked.{stored_recovered, one_recovered, two_recovered}
 use Rattle.recovery.proofs.recovery.recovered_block.Goals as goal
 
-pub returns-then-not-has-either : goal.returns-then-not-has-either
-returns-then-not-has-either g c =
+pub returns-then-not-has_either : goal.returns-then-not-has_either
+returns-then-not-has_either g c =
     let m = g.S.ReadStore.means c.args.store.now in
     stored_recovered g.S.Block.BlockKind.group m.size (marked c.args.absent.bits) m.block c.args.a c.args.b c.requires.first c.requires.second _ (sym c.if-not-has-either.ensures) c.kept-block.ensures
 

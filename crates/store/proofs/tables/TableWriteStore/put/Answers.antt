@@ -8,7 +8,7 @@ pub write-requires : goal.write-requires
 write-requires g c =
     let t = c.args.self.now in
     let l : pair_place c.args.a c.args.b < length t.blocks.row.now = within g.B.BlockKind.group.none t.size.number t.out.bits t.blocks.row.now (marked t.out.bits) c.args.a c.args.b
-    (ap is_ok (sym c.in-ok-admit-pair.ensures)) t.long in
+    (ap is_ok (sym c.in_ok-admit_pair.ensures)) t.long in
     omega (arith, c.place.ensures, l)
 
 pub returns : goal.returns
@@ -16,8 +16,8 @@ returns g c =
     let t = c.args.self.now in
     let none = g.B.BlockKind.group.none in
     record {
-      answer = c.in-ok-admit-pair.ensures;
+      answer = c.in_ok-admit_pair.ensures;
       after = row_written none t.size.number t.out.bits t.blocks.row.now c.args.a c.args.b c.args.x _
-          (within none t.size.number t.out.bits t.blocks.row.now (marked t.out.bits) c.args.a c.args.b (ap is_ok (sym c.in-ok-admit-pair.ensures)) t.long)
+          (within none t.size.number t.out.bits t.blocks.row.now (marked t.out.bits) c.args.a c.args.b (ap is_ok (sym c.in_ok-admit_pair.ensures)) t.long)
           (c.write.ensures ∙ ap (λ k. set t.blocks.row.now k c.args.x) c.place.ensures);
     }
