@@ -31,7 +31,7 @@ impl fmt::Display for Verdict {
 
 // Is station s, below the size, out or in `also`?
 pub fn is_absent<S: ReadStore>(store: &S, also: Marks, s: u8) -> bool
-    ensures { result ≡ (nat_lt s (means store.now).size && absent_of (means store.now) also.bits s) }
+    ensures { result ≡ (nat_lt s (S.means store.now).size && absent_of (S.means store.now) also.bits s) }
 {
     match store.is_in(s) {
         Ok(inside) => !inside || also.has(s),
@@ -41,7 +41,7 @@ pub fn is_absent<S: ReadStore>(store: &S, also: Marks, s: u8) -> bool
 
 // The smallest station that is out or in `also`.
 pub fn first_absent<S: ReadStore>(store: &S, also: Marks) -> Option<u8>
-    ensures { result ≡ first (absent_of (means store.now) also.bits) (means store.now).size }
+    ensures { result ≡ first (absent_of (S.means store.now) also.bits) (S.means store.now).size }
 {
     for s in 0..store.size().number() {
         if is_absent(store, also, s) {
@@ -53,7 +53,7 @@ pub fn first_absent<S: ReadStore>(store: &S, also: Marks) -> Option<u8>
 
 // The stored block of a pair, or zero where the store refuses it.
 fn stored<S: ReadStore>(store: &S, a: u8, b: u8) -> S::Block
-    ensures { result ≡ (if is_ok (get_answer (means store.now) a b) then of (means store.now).block a b else S.Block.BlockKind.group.none) }
+    ensures { result ≡ (if is_ok (get_answer (S.means store.now) a b) then of (S.means store.now).block a b else S.Block.group.none) }
 {
     let mut block = S::Block::zero();
     let _ = store.get(a, b, &mut block);
@@ -62,8 +62,8 @@ fn stored<S: ReadStore>(store: &S, a: u8, b: u8) -> S::Block
 
 // The audit of a store with no station out.
 fn first_broken<S: ReadStore>(store: &S) -> Verdict
-    requires { (s : ℕ) → s < (means store.now).size → (means store.now).out s ≡ false }
-    ensures { Found Block-as-BlockKind.group (means store.now).size (means store.now).block result }
+    requires { (s : ℕ) → s < (S.means store.now).size → (S.means store.now).out s ≡ false }
+    ensures { Found S.Block.group (S.means store.now).size (S.means store.now).block result }
 {
     let n = store.size().number();
     let zero = S::Block::zero();
@@ -97,7 +97,7 @@ fn first_broken<S: ReadStore>(store: &S) -> Verdict
 
 // The audit where the stations in `also` count as absent too. Refused by 12 b, with the smallest absent station.
 pub fn audit_beside<S: ReadStore>(store: &S, also: Marks) -> Result<Verdict, Fault>
-    ensures { Audited Block-as-BlockKind.group (means store.now).size (absent_of (means store.now) also.bits) (means store.now).block result }
+    ensures { Audited S.Block.group (S.means store.now).size (absent_of (S.means store.now) also.bits) (S.means store.now).block result }
 {
     match first_absent(store, also) {
         Some(s) => Err(Fault::AbsentAtAudit(s)),
@@ -107,7 +107,7 @@ pub fn audit_beside<S: ReadStore>(store: &S, also: Marks) -> Result<Verdict, Fau
 
 // The audit of a store. Refused by 12 b, with the smallest station that is out.
 pub fn audit<S: ReadStore>(store: &S) -> Result<Verdict, Fault>
-    ensures { Audited Block-as-BlockKind.group (means store.now).size (means store.now).out (means store.now).block result }
+    ensures { Audited S.Block.group (S.means store.now).size (S.means store.now).out (S.means store.now).block result }
 {
     audit_beside(store, Marks::none())
 }

@@ -16,7 +16,7 @@ impl<S: WriteStore> Book<S> {
     pub fn abandon(&mut self, ticket: Ticket) -> bool
         ensures answer { result ≡ being_filled self.old.filling (station_of ticket) }
         ensures filling { self.new.filling ≡ (if result then Idle else self.old.filling) }
-        ensures store { Sound (state (S.ReadStore.means self.old.store) self.old.filling) → result ≡ true → Remarked (S.ReadStore.means self.old.store) (station_of ticket) true (S.ReadStore.means self.new.store) }
+        ensures store { Sound (state (S.means self.old.store) self.old.filling) → result ≡ true → Remarked (S.means self.old.store) (station_of ticket) true (S.means self.new.store) }
         ensures same { result ≡ false → self.new ≡ self.old }
     {
         match (&mut self.filling, ticket.spend()) {

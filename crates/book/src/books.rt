@@ -33,31 +33,31 @@ impl<S: WriteStore> Book<S> {
 
     // How many stations there are.
     pub fn size(&self) -> Size
-        ensures { result.number ≡ (S.ReadStore.means self.now.store).size }
+        ensures { result.number ≡ (S.means self.now.store).size }
     {
         self.store.size()
     }
 
     // Is station s, below n, absent?
     fn is_absent(&self, s: u8) -> bool
-        requires { s < (S.ReadStore.means self.now.store).size }
-        ensures { result ≡ absent (state (S.ReadStore.means self.now.store) self.now.filling) s }
+        requires { s < (S.means self.now.store).size }
+        ensures { result ≡ absent (state (S.means self.now.store) self.now.filling) s }
     {
         matches!(self.store.is_in(s), Ok(false)) || self.filling.fills(s)
     }
 
     // How many stations are absent.
     pub(crate) fn count(&self, size: Size) -> u8
-        requires { size.number ≡ (S.ReadStore.means self.now.store).size }
-        ensures { result ≡ absent_count (state (S.ReadStore.means self.now.store) self.now.filling) }
+        requires { size.number ≡ (S.means self.now.store).size }
+        ensures { result ≡ absent_count (state (S.means self.now.store) self.now.filling) }
     {
         count_absent(&self.store, self.filling.marks(size))
     }
 
     // Takes a standing station out. Refused by 4 s and 6 b.
     pub fn lose(&mut self, s: u8) -> Result<(), Fault>
-        ensures answer { result ≡ lose_answer (state (S.ReadStore.means self.old.store) self.old.filling) s }
-        ensures after { After result (Remarked (S.ReadStore.means self.old.store) s true (S.ReadStore.means self.new.store)) (S.ReadStore.means self.new.store ≡ S.ReadStore.means self.old.store) }
+        ensures answer { result ≡ lose_answer (state (S.means self.old.store) self.old.filling) s }
+        ensures after { After result (Remarked (S.means self.old.store) s true (S.means self.new.store)) (S.means self.new.store ≡ S.means self.old.store) }
         ensures filling { self.new.filling ≡ self.old.filling }
     {
         let n = self.store.size().number();
@@ -72,7 +72,7 @@ impl<S: WriteStore> Book<S> {
 
     // The checks of fit: 4 s, 7 b, 8 b and 9 b, in this order.
     fn may_fit(&self, s: u8) -> Result<(), Fault>
-        ensures { result ≡ fit_answer (state (S.ReadStore.means self.now.store) self.now.filling) s }
+        ensures { result ≡ fit_answer (state (S.means self.now.store) self.now.filling) s }
     {
         match self.store.is_in(s) {
             Err(fault) => return Err(fault),
@@ -91,9 +91,9 @@ impl<S: WriteStore> Book<S> {
 
     // Brings a station in that is out, and starts its filling at partner 0.
     pub fn fit(&mut self, s: u8) -> Result<OpenTicket, Fault>
-        ensures answer { answered result ≡ fit_answer (state (S.ReadStore.means self.old.store) self.old.filling) s }
+        ensures answer { answered result ≡ fit_answer (state (S.means self.old.store) self.old.filling) s }
         ensures ticket { IfOk result (λ t. t.station ≡ s) }
-        ensures after { After result (Remarked (S.ReadStore.means self.old.store) s false (S.ReadStore.means self.new.store)) (S.ReadStore.means self.new.store ≡ S.ReadStore.means self.old.store) }
+        ensures after { After result (Remarked (S.means self.old.store) s false (S.means self.new.store)) (S.means self.new.store ≡ S.means self.old.store) }
         ensures filling { self.new.filling ≡ (if is_ok result then At s 0 else self.old.filling) }
     {
         self.may_fit(s)?;
@@ -107,7 +107,7 @@ impl<S: WriteStore> Book<S> {
 
     // Ends the filling of the ticket's station, which then stands. Refused by 10 b, and then the ticket is handed back.
     pub fn finish(&mut self, ticket: FullTicket) -> Result<(), (FullTicket, Fault)>
-        ensures answer { told result ≡ finish_answer (state (S.ReadStore.means self.old.store) self.old.filling) ticket.station }
+        ensures answer { told result ≡ finish_answer (state (S.means self.old.store) self.old.filling) ticket.station }
         ensures ticket { IfErr result (λ e. e.0 ≡ ticket) }
         ensures store { self.new.store ≡ self.old.store }
         ensures filling { self.new.filling ≡ (if is_ok result then Idle else self.old.filling) }

@@ -17,7 +17,7 @@ use store::{ReadStore, WriteStore};
 impl<S: WriteStore> Book<S> {
     // The checks of fill: 3 b, 10 b and 9 b, in this order.
     fn may_fill(&self, len: usize, t: u8) -> Result<(), Fault>
-        ensures { result ≡ fill_answer (state (S.ReadStore.means self.now.store) self.now.filling) len t }
+        ensures { result ≡ fill_answer (state (S.means self.now.store) self.now.filling) len t }
     {
         let size = self.store.size();
         if len < 8 * usize::from(size.number()) {
@@ -35,7 +35,7 @@ impl<S: WriteStore> Book<S> {
 
     // Recovers the pair with the next partner, and puts it if that partner is in.
     fn fill_next(&mut self, work: &mut [S::Block])
-        ensures store { Sound (state (S.ReadStore.means self.old.store) self.old.filling) → 8 * (S.ReadStore.means self.old.store).size ≤ length work.old → too_many (state (S.ReadStore.means self.old.store) self.old.filling) ≡ false → FilledNext S.Block.BlockKind.group (state (S.ReadStore.means self.old.store) self.old.filling) self.old.filling (S.ReadStore.means self.new.store) }
+        ensures store { Sound (state (S.means self.old.store) self.old.filling) → 8 * (S.means self.old.store).size ≤ length work.old → too_many (state (S.means self.old.store) self.old.filling) ≡ false → FilledNext S.Block.group (state (S.means self.old.store) self.old.filling) self.old.filling (S.means self.new.store) }
         ensures filling { self.new.filling ≡ self.old.filling }
     {
         match self.filling {
@@ -56,11 +56,11 @@ impl<S: WriteStore> Book<S> {
         ticket: OpenTicket,
         work: &mut [S::Block],
     ) -> Result<Ticket, (OpenTicket, Fault)>
-        ensures answer { told result ≡ fill_answer (state (S.ReadStore.means self.old.store) self.old.filling) (length work.old) ticket.station }
+        ensures answer { told result ≡ fill_answer (state (S.means self.old.store) self.old.filling) (length work.old) ticket.station }
         ensures back { IfErr result (λ e. e.0 ≡ ticket) }
-        ensures ticket { IfOk result (λ t. t ≡ ticket_after (S.ReadStore.means self.old.store).size (next_of self.new.filling) ticket.station) }
-        ensures filling { self.new.filling ≡ (if is_ok result then stepped (S.ReadStore.means self.old.store).size self.old.filling else self.old.filling) }
-        ensures store { Sound (state (S.ReadStore.means self.old.store) self.old.filling) → OnOk result (FilledNext S.Block.BlockKind.group (state (S.ReadStore.means self.old.store) self.old.filling) self.old.filling (S.ReadStore.means self.new.store)) }
+        ensures ticket { IfOk result (λ t. t ≡ ticket_after (S.means self.old.store).size (next_of self.new.filling) ticket.station) }
+        ensures filling { self.new.filling ≡ (if is_ok result then stepped (S.means self.old.store).size self.old.filling else self.old.filling) }
+        ensures store { Sound (state (S.means self.old.store) self.old.filling) → OnOk result (FilledNext S.Block.group (state (S.means self.old.store) self.old.filling) self.old.filling (S.means self.new.store)) }
         ensures same { OnErr result ((self.new.store ≡ self.old.store) × (work.new ≡ work.old)) }
     {
         if let Err(fault) = self.may_fill(work.len(), ticket.station()) {
@@ -74,7 +74,7 @@ impl<S: WriteStore> Book<S> {
 
 // Recovers the pair of t, being filled, with a partner, and puts it if that partner is in.
 fn fill_pair<S: WriteStore>(store: &mut S, filling: Filling, t: u8, next: u8, work: &mut [S::Block])
-    ensures { CanFill (state (S.ReadStore.means store.old) filling) t next (length work.old) → Filled S.Block.BlockKind.group (state (S.ReadStore.means store.old) filling) t next (S.ReadStore.means store.new) }
+    ensures { CanFill (state (S.means store.old) filling) t next (length work.old) → Filled S.Block.group (state (S.means store.old) filling) t next (S.means store.new) }
 {
     let also = filling.marks(store.size());
     let mut block = S::Block::zero();

@@ -16,10 +16,10 @@ use store::{ReadStore, WriteStore};
 
 // Puts zero at the pairs of a with stations up to a.
 fn clear_row<S: WriteStore>(store: &mut S, a: u8)
-    requires all { AllIn (S.ReadStore.means store.old) }
-    requires below { a < (S.ReadStore.means store.old).size }
+    requires all { AllIn (S.means store.old) }
+    requires below { a < (S.means store.old).size }
     requires small { a < 31 }
-    ensures { RowCleared Block-as-BlockKind.group (S.ReadStore.means store.old) a (a + 1) (S.ReadStore.means store.new) }
+    ensures { RowCleared S.Block.group (S.means store.old) a (a + 1) (S.means store.new) }
 {
     for b in 0..a + 1 {
         // No station is out, so this is not refused.
@@ -29,9 +29,9 @@ fn clear_row<S: WriteStore>(store: &mut S, a: u8)
 
 // Puts zero at all pairs.
 fn clear<S: WriteStore>(store: &mut S)
-    requires { AllIn (S.ReadStore.means store.old) }
-    ensures cleared { RowsCleared Block-as-BlockKind.group (S.ReadStore.means store.old) (S.ReadStore.means store.old).size (S.ReadStore.means store.new) }
-    ensures prime { OddPrime (S.ReadStore.means store.old).size }
+    requires { AllIn (S.means store.old) }
+    ensures cleared { RowsCleared S.Block.group (S.means store.old) (S.means store.old).size (S.means store.new) }
+    ensures prime { OddPrime (S.means store.old).size }
 {
     for a in 0..store.size().number() {
         clear_row(store, a);
@@ -41,8 +41,8 @@ fn clear<S: WriteStore>(store: &mut S)
 impl<S: WriteStore> Book<S> {
     // Zero blocks everywhere, and no filling. Refused by 2 b, with the smallest station that is out.
     pub fn open(&mut self) -> Result<(), Fault>
-        ensures answer { result ≡ open_answer (state (S.ReadStore.means self.old.store) self.old.filling) }
-        ensures after { After result (Opened Block-as-BlockKind.group (state (S.ReadStore.means self.old.store) self.old.filling) (state (S.ReadStore.means self.new.store) self.new.filling)) (state (S.ReadStore.means self.new.store) self.new.filling ≡ state (S.ReadStore.means self.old.store) self.old.filling) }
+        ensures answer { result ≡ open_answer (state (S.means self.old.store) self.old.filling) }
+        ensures after { After result (Opened S.Block.group (state (S.means self.old.store) self.old.filling) (state (S.means self.new.store) self.new.filling)) (state (S.means self.new.store) self.new.filling ≡ state (S.means self.old.store) self.old.filling) }
     {
         if let Some(s) = first_absent(&self.store, Marks::none()) {
             return Err(Fault::OutAtOpen(s));

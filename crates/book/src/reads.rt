@@ -14,7 +14,7 @@ use store::{ReadStore, WriteStore};
 impl<S: WriteStore> Book<S> {
     // What read and write look at first: 3 b, 4 s and 5 b, in this order.
     pub(crate) fn may_touch(&self, len: usize, a: u8, b: u8) -> Result<(), Fault>
-        ensures { result ≡ data_answer (state (S.ReadStore.means self.now.store) self.now.filling) len a b (Ok tt) }
+        ensures { result ≡ data_answer (state (S.means self.now.store) self.now.filling) len a b (Ok tt) }
     {
         let n = self.store.size().number();
         if len < 8 * usize::from(n) {
@@ -41,8 +41,8 @@ impl<S: WriteStore> Book<S> {
         work: &mut [S::Block],
         into: &mut S::Block,
     ) -> Result<(), Fault>
-        ensures answer { result ≡ read_answer (state (S.ReadStore.means self.now.store) self.now.filling) (length work.old) a b }
-        ensures block { is_ok result ≡ true → Recovered S.Block.BlockKind.group (S.ReadStore.means self.now.store).size (absent (state (S.ReadStore.means self.now.store) self.now.filling)) (S.ReadStore.means self.now.store).block a b into.new }
+        ensures answer { result ≡ read_answer (state (S.means self.now.store) self.now.filling) (length work.old) a b }
+        ensures block { is_ok result ≡ true → Recovered S.Block.group (S.means self.now.store).size (absent (state (S.means self.now.store) self.now.filling)) (S.means self.now.store).block a b into.new }
         ensures into { is_ok result ≡ false → into.new ≡ into.old }
         ensures work { is_ok result ≡ false → work.new ≡ work.old }
     {
@@ -53,7 +53,7 @@ impl<S: WriteStore> Book<S> {
 
     // The first broken rule, or sound. Refused by 12 b with the smallest absent station.
     pub fn audit(&self) -> Result<Verdict, Fault>
-        ensures { Audited S.Block.BlockKind.group (S.ReadStore.means self.now.store).size (absent (state (S.ReadStore.means self.now.store) self.now.filling)) (S.ReadStore.means self.now.store).block result }
+        ensures { Audited S.Block.group (S.means self.now.store).size (absent (state (S.means self.now.store) self.now.filling)) (S.means self.now.store).block result }
     {
         audit_beside(&self.store, self.filling.marks(self.store.size()))
     }

@@ -15,9 +15,9 @@ use store::{ReadStore, WriteStore};
 
 // Adds a block to the pair of a and b if both stations are in.
 fn add_to<S: WriteStore>(store: &mut S, a: u8, b: u8, d: S::Block)
-    requires first { a < (S.ReadStore.means store.old).size }
-    requires second { b < (S.ReadStore.means store.old).size }
-    ensures { Added S.Block.BlockKind.group (S.ReadStore.means store.old) (spot S.Block.BlockKind.group.none d a b) (S.ReadStore.means store.new) }
+    requires first { a < (S.means store.old).size }
+    requires second { b < (S.means store.old).size }
+    ensures { Added S.Block.group (S.means store.old) (spot S.Block.group.none d a b) (S.means store.new) }
 {
     let mut block = S::Block::zero();
     if store.get(a, b, &mut block).is_ok() {
@@ -28,10 +28,10 @@ fn add_to<S: WriteStore>(store: &mut S, a: u8, b: u8, d: S::Block)
 
 // Adds the row of c, which begins at `start`, to the pairs of c with the stations up to c.
 fn add_row<S: WriteStore>(store: &mut S, c: u8, row: &[S::Block], start: usize)
-    requires below { c < (S.ReadStore.means store.old).size }
-    requires small { (S.ReadStore.means store.old).size ≤ 31 }
-    requires long { start + (S.ReadStore.means store.old).size ≤ length row.now }
-    ensures { Added S.Block.BlockKind.group (S.ReadStore.means store.old) (row_part S.Block.BlockKind.group c (c + 1) row.now start) (S.ReadStore.means store.new) }
+    requires below { c < (S.means store.old).size }
+    requires small { (S.means store.old).size ≤ 31 }
+    requires long { start + (S.means store.old).size ≤ length row.now }
+    ensures { Added S.Block.group (S.means store.old) (row_part S.Block.group c (c + 1) row.now start) (S.means store.new) }
 {
     for k in 0..c + 1 {
         add_to(store, c, k, row[start + usize::from(k)]);
@@ -40,9 +40,9 @@ fn add_row<S: WriteStore>(store: &mut S, c: u8, row: &[S::Block], start: usize)
 
 // Adds d to a data pair and to the check pairs of its pattern: the codeword with d there and zero at the other data pairs.
 fn spread<S: WriteStore>(store: &mut S, a: u8, b: u8, d: S::Block, work: &mut [S::Block])
-    requires inner { max a b + 2 < (S.ReadStore.means store.old).size }
-    requires long { 8 * (S.ReadStore.means store.old).size ≤ length work.old }
-    ensures { Spread S.Block.BlockKind.group (S.ReadStore.means store.old) a b d (S.ReadStore.means store.new) }
+    requires inner { max a b + 2 < (S.means store.old).size }
+    requires long { 8 * (S.means store.old).size ≤ length work.old }
+    ensures { Spread S.Block.group (S.means store.old) a b d (S.means store.new) }
 {
     let size = store.size();
     let n = size.number();
@@ -63,8 +63,8 @@ fn write_pair<S: WriteStore>(
     x: S::Block,
     work: &mut [S::Block],
 )
-    requires { CanWrite (state (S.ReadStore.means store.old) filling) (length work.old) a b }
-    ensures { Wrote S.Block.BlockKind.group (state (S.ReadStore.means store.old) filling) a b x (state (S.ReadStore.means store.new) filling) }
+    requires { CanWrite (state (S.means store.old) filling) (length work.old) a b }
+    ensures { Wrote S.Block.group (state (S.means store.old) filling) a b x (state (S.means store.new) filling) }
 {
     let also = filling.marks(store.size());
     let mut old = S::Block::zero();
@@ -76,7 +76,7 @@ fn write_pair<S: WriteStore>(
 impl<S: WriteStore> Book<S> {
     // The checks of write: 3 b, 4 s, 5 b and 9 b, in this order.
     fn may_write(&self, len: usize, a: u8, b: u8) -> Result<(), Fault>
-        ensures { result ≡ write_answer (state (S.ReadStore.means self.now.store) self.now.filling) len a b }
+        ensures { result ≡ write_answer (state (S.means self.now.store) self.now.filling) len a b }
     {
         self.may_touch(len, a, b)?;
         let count = self.count(self.store.size());
@@ -88,8 +88,8 @@ impl<S: WriteStore> Book<S> {
 
     // Writes a data pair. Refused by 3 b, 4 s, 5 b and 9 b; a refusal changes nothing.
     pub fn write(&mut self, a: u8, b: u8, x: S::Block, work: &mut [S::Block]) -> Result<(), Fault>
-        ensures answer { result ≡ write_answer (state (S.ReadStore.means self.old.store) self.old.filling) (length work.old) a b }
-        ensures after { After result (Wrote S.Block.BlockKind.group (state (S.ReadStore.means self.old.store) self.old.filling) a b x (state (S.ReadStore.means self.new.store) self.new.filling)) (state (S.ReadStore.means self.new.store) self.new.filling ≡ state (S.ReadStore.means self.old.store) self.old.filling) }
+        ensures answer { result ≡ write_answer (state (S.means self.old.store) self.old.filling) (length work.old) a b }
+        ensures after { After result (Wrote S.Block.group (state (S.means self.old.store) self.old.filling) a b x (state (S.means self.new.store) self.new.filling)) (state (S.means self.new.store) self.new.filling ≡ state (S.means self.old.store) self.old.filling) }
         ensures same { is_ok result ≡ false → self.new ≡ self.old }
         ensures work { is_ok result ≡ false → work.new ≡ work.old }
     {

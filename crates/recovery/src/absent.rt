@@ -10,15 +10,15 @@ use store::ReadStore;
 
 // Whether a station is out or one of `also`.
 fn is_absent<S: ReadStore>(store: &S, also: Marks, s: u8) -> bool
-    requires { s < (means store.now).size }
-    ensures { result ≡ absent_of (means store.now) also.bits s }
+    requires { s < (S.means store.now).size }
+    ensures { result ≡ absent_of (S.means store.now) also.bits s }
 {
     matches!(store.is_in(s), Ok(false)) || also.has(s)
 }
 
 // The absent stations.
 pub fn absent_marks<S: ReadStore>(store: &S, also: Marks) -> Marks
-    ensures { AbsentMarks (means store.now) also.bits result.bits }
+    ensures { AbsentMarks (S.means store.now) also.bits result.bits }
 {
     let n = store.size().number();
     let mut absent = Marks::none();
@@ -43,7 +43,7 @@ pub(crate) fn count_marks(marks: Marks, n: u8) -> u8
 
 // How many stations are absent.
 pub fn count_absent<S: ReadStore>(store: &S, also: Marks) -> u8
-    ensures { result ≡ absentees (absent_of (means store.now) also.bits) (means store.now).size }
+    ensures { result ≡ absentees (absent_of (S.means store.now) also.bits) (S.means store.now).size }
 {
     count_marks(absent_marks(store, also), store.size().number())
 }

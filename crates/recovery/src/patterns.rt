@@ -24,14 +24,14 @@ pub struct Impulse<B> {
 
 impl<B: BlockKind> Impulse<B> {
     pub fn new(size: Size, a: u8, b: u8, block: B) -> Self
-        ensures { impulse group result.size.number result.a result.b result.block ≡ impulse group size.number a b block }
+        ensures { impulse B.group result.size.number result.a result.b result.block ≡ impulse B.group size.number a b block }
     {
         Impulse { size, a, b, block }
     }
 
     // The block of a pair.
     fn at(&self, larger: u8, smaller: u8) -> B
-        ensures { result ≡ (impulse group self.now.size.number self.now.a self.now.b self.now.block).block larger smaller }
+        ensures { result ≡ (impulse B.group self.now.size.number self.now.a self.now.b self.now.block).block larger smaller }
     {
         if larger == self.a.max(self.b) && smaller == self.a.min(self.b) {
             self.block
@@ -44,7 +44,7 @@ impl<B: BlockKind> Impulse<B> {
 impl<B: BlockKind> ReadStore for Impulse<B> {
     type Block = B;
 
-    ghost means = { λ s. impulse B.BlockKind.group s.size.number s.a s.b s.block };
+    ghost means = { λ s. impulse B.group s.size.number s.a s.b s.block };
 
     fn size(&self) -> Size {
         self.size

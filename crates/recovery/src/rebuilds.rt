@@ -18,11 +18,11 @@ use store::ReadStore;
 
 // The neighbourhood sums of the pairs that stand.
 fn lay_neighbourhoods<S: ReadStore>(store: &S, absent: Marks, n: u8, work: &mut [S::Block])
-    requires covers { Covers (means store.now) absent.bits }
-    requires size { n ≡ (means store.now).size }
+    requires covers { Covers (S.means store.now) absent.bits }
+    requires size { n ≡ (S.means store.now).size }
     requires long { 8 * n ≤ length work.old }
-    ensures sums { (k : ℕ) → k < n → from S.Block.BlockKind.group work.new (2 * n) k ≡ neighbourhood S.Block.BlockKind.group n (standing S.Block.BlockKind.group (means store.now) absent.bits) k }
-    ensures same { SameBelow S.Block.BlockKind.group (2 * n) work.old work.new }
+    ensures sums { (k : ℕ) → k < n → from S.Block.group work.new (2 * n) k ≡ neighbourhood S.Block.group n (standing S.Block.group (S.means store.now) absent.bits) k }
+    ensures same { SameBelow S.Block.group (2 * n) work.old work.new }
 {
     let row = 2 * (n as usize);
     for h in 0..n {
@@ -32,13 +32,13 @@ fn lay_neighbourhoods<S: ReadStore>(store: &S, absent: Marks, n: u8, work: &mut 
 
 // Their diagonal sums, each at the station that is on it with i.
 fn lay_diagonals<S: ReadStore>(store: &S, absent: Marks, n: u8, i: u8, work: &mut [S::Block])
-    requires covers { Covers (means store.now) absent.bits }
-    requires size { n ≡ (means store.now).size }
+    requires covers { Covers (S.means store.now) absent.bits }
+    requires size { n ≡ (S.means store.now).size }
     requires below { i < n }
     requires prime { OddPrime n }
     requires long { 8 * n ≤ length work.old }
-    ensures sums { (k : ℕ) → k < n → from S.Block.BlockKind.group work.new (3 * n) k ≡ diagonal S.Block.BlockKind.group n (standing S.Block.BlockKind.group (means store.now) absent.bits) ((i + k) % n) }
-    ensures same { SameBelow S.Block.BlockKind.group (3 * n) work.old work.new }
+    ensures sums { (k : ℕ) → k < n → from S.Block.group work.new (3 * n) k ≡ diagonal S.Block.group n (standing S.Block.group (S.means store.now) absent.bits) ((i + k) % n) }
+    ensures same { SameBelow S.Block.group (3 * n) work.old work.new }
 {
     let row = 3 * (n as usize);
     for k in 0..n {
@@ -49,7 +49,7 @@ fn lay_diagonals<S: ReadStore>(store: &S, absent: Marks, n: u8, i: u8, work: &mu
 // The block at a place of the work area.
 fn block_at<B: BlockKind>(work: &[B], p: usize) -> B
     requires { p < length work.now }
-    ensures { result ≡ slice_index_or work.now p group.none }
+    ensures { result ≡ slice_index_or work.now p B.group.none }
 {
     work[p]
 }
@@ -58,7 +58,7 @@ fn block_at<B: BlockKind>(work: &[B], p: usize) -> B
 fn sum_at<B: BlockKind>(work: &[B], p: usize, q: usize) -> B
     requires first { p < length work.now }
     requires second { q < length work.now }
-    ensures { result ≡ group.sum (slice_index_or work.now p group.none) (slice_index_or work.now q group.none) }
+    ensures { result ≡ B.group.sum (slice_index_or work.now p B.group.none) (slice_index_or work.now q B.group.none) }
 {
     block_at(work, p).add(block_at(work, q))
 }
@@ -80,8 +80,8 @@ fn lay_walk<B: BlockKind>(n: usize, i: usize, j: usize, work: &mut [B])
     requires below { j < n }
     requires prime { OddPrime n }
     requires long { 8 * n ≤ length work.old }
-    ensures walk { (s : ℕ) → s + 2 < n → from group work.new (4 * n) (station n i j (s + 2)) ≡ gathered group n i j work.old s }
-    ensures same { SameBelow group (4 * n) work.old work.new }
+    ensures walk { (s : ℕ) → s + 2 < n → from B.group work.new (4 * n) (station n i j (s + 2)) ≡ gathered B.group n i j work.old s }
+    ensures same { SameBelow B.group (4 * n) work.old work.new }
 {
     let mut sum = B::zero();
     for t in 2..n {
@@ -97,7 +97,7 @@ fn lay_walk<B: BlockKind>(n: usize, i: usize, j: usize, work: &mut [B])
 fn walk_sum<B: BlockKind>(n: usize, i: usize, j: usize, work: &[B]) -> B
     requires small { n ≤ 31 }
     requires long { 8 * n ≤ length work.now }
-    ensures { result ≡ all_gathered group n i j work.now }
+    ensures { result ≡ all_gathered B.group n i j work.now }
 {
     let mut sum = B::zero();
     for k in 0..n {
@@ -112,7 +112,7 @@ fn walk_sum<B: BlockKind>(n: usize, i: usize, j: usize, work: &[B]) -> B
 fn lay_rows<B: BlockKind>(n: usize, third: B, work: &mut [B])
     requires small { n ≤ 31 }
     requires long { 8 * n ≤ length work.old }
-    ensures { OpenRows group n third work.old work.new }
+    ensures { OpenRows B.group n third work.old work.new }
 {
     for k in 0..n {
         let x = third.add(work[4 * n + k]);
@@ -128,7 +128,7 @@ fn close_pair<B: BlockKind>(n: usize, i: usize, j: usize, work: &mut [B])
     requires below { j < n }
     requires small { n ≤ 31 }
     requires long { 8 * n ≤ length work.old }
-    ensures { work.new ≡ paired group n i j work.old }
+    ensures { work.new ≡ paired B.group n i j work.old }
 {
     let between = block_at(work, 3 * n + j);
     work[j] = between;
@@ -141,7 +141,7 @@ fn close_rows<B: BlockKind>(n: usize, i: usize, j: usize, work: &mut [B])
     requires below { j < n }
     requires small { n ≤ 31 }
     requires long { 8 * n ≤ length work.old }
-    ensures { work.new ≡ closed group n i j work.old }
+    ensures { work.new ≡ closed B.group n i j work.old }
 {
     let after = walk_to(n, i, j, 2);
     let last = walk_to(n, i, j, n - 1);
@@ -154,10 +154,10 @@ fn close_rows<B: BlockKind>(n: usize, i: usize, j: usize, work: &mut [B])
 
 // The rows of two absent stations.
 pub(crate) fn rebuild<S: ReadStore>(store: &S, absent: Marks, pair: Pair, work: &mut [S::Block])
-    requires covers { Covers (means store.now) absent.bits }
-    requires two { Two (marked absent.bits) (means store.now).size pair }
-    requires long { 8 * (means store.now).size ≤ length work.old }
-    ensures { Rows S.Block.BlockKind.group (means store.now).size (marked absent.bits) (means store.now).block pair work.new }
+    requires covers { Covers (S.means store.now) absent.bits }
+    requires two { Two (marked absent.bits) (S.means store.now).size pair }
+    requires long { 8 * (S.means store.now).size ≤ length work.old }
+    ensures { Rows S.Block.group (S.means store.now).size (marked absent.bits) (S.means store.now).block pair work.new }
 {
     let size = store.size().number();
     let n = size as usize;
@@ -178,7 +178,7 @@ pub fn rebuild_two<S: ReadStore>(
     also: Marks,
     work: &mut [S::Block],
 ) -> Result<Option<Pair>, Fault>
-    ensures { RebuiltTwo S.Block.BlockKind.group (means store.now).size (absent_of (means store.now) also.bits) (means store.now).block work.old result work.new }
+    ensures { RebuiltTwo S.Block.group (S.means store.now).size (absent_of (S.means store.now) also.bits) (S.means store.now).block work.old result work.new }
 {
     let n = store.size().number();
     if work.len() < 8 * (n as usize) {

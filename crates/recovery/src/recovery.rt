@@ -60,7 +60,7 @@ pub(crate) fn row_block<B: BlockKind>(n: u8, two: Pair, a: u8, b: u8, area: &[B]
     requires first { a < n }
     requires second { b < n }
     requires long { 8 * n ≤ length area.now }
-    ensures { result ≡ slice_index_or area.now (row_place_lem n two a b) group.none }
+    ensures { result ≡ slice_index_or area.now (row_place_lem n two a b) B.group.none }
 {
     area[row_place(n, two, a, b)]
 }
@@ -73,11 +73,11 @@ fn recovered_block<S: ReadStore>(
     b: u8,
     work: &mut [S::Block],
 ) -> S::Block
-    requires covers { Covers (means store.now) absent.bits }
-    requires first { a < (means store.now).size }
-    requires second { b < (means store.now).size }
-    requires long { 8 * (means store.now).size ≤ length work.old }
-    ensures { Recovered S.Block.BlockKind.group (means store.now).size (marked absent.bits) (means store.now).block a b result }
+    requires covers { Covers (S.means store.now) absent.bits }
+    requires first { a < (S.means store.now).size }
+    requires second { b < (S.means store.now).size }
+    requires long { 8 * (S.means store.now).size ≤ length work.old }
+    ensures { Recovered S.Block.group (S.means store.now).size (marked absent.bits) (S.means store.now).block a b result }
 {
     let n = store.size().number();
     if !has_either(absent, a, b) {
@@ -103,8 +103,8 @@ pub fn recover_beside<S: ReadStore>(
     work: &mut [S::Block],
     into: &mut S::Block,
 ) -> Result<(), Fault>
-    ensures answer { result ≡ recover_answer (means store.now).size (absent_of (means store.now) also.bits) (length work.old) a b }
-    ensures block { is_ok result ≡ true → Recovered S.Block.BlockKind.group (means store.now).size (absent_of (means store.now) also.bits) (means store.now).block a b into.new }
+    ensures answer { result ≡ recover_answer (S.means store.now).size (absent_of (S.means store.now) also.bits) (length work.old) a b }
+    ensures block { is_ok result ≡ true → Recovered S.Block.group (S.means store.now).size (absent_of (S.means store.now) also.bits) (S.means store.now).block a b into.new }
     ensures into { is_ok result ≡ false → into.new ≡ into.old }
     ensures work { is_ok result ≡ false → work.new ≡ work.old }
 {
@@ -125,8 +125,8 @@ pub fn recover<S: ReadStore>(
     work: &mut [S::Block],
     into: &mut S::Block,
 ) -> Result<(), Fault>
-    ensures answer { result ≡ recover_answer (means store.now).size (means store.now).out (length work.old) a b }
-    ensures block { is_ok result ≡ true → Recovered S.Block.BlockKind.group (means store.now).size (means store.now).out (means store.now).block a b into.new }
+    ensures answer { result ≡ recover_answer (S.means store.now).size (S.means store.now).out (length work.old) a b }
+    ensures block { is_ok result ≡ true → Recovered S.Block.group (S.means store.now).size (S.means store.now).out (S.means store.now).block a b into.new }
     ensures into { is_ok result ≡ false → into.new ≡ into.old }
     ensures work { is_ok result ≡ false → work.new ≡ work.old }
 {

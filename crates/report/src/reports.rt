@@ -63,7 +63,7 @@ fn out_line<S: ReadStore>(heap: Global, store: &S) -> Result<String, AllocError>
 
 // The report on a store: its size, the stations that are out, and what the audit answers, a line each.
 pub fn report<S: ReadStore>(heap: Global, store: &S) -> Result<String, AllocError>
-    ensures { IfOk result (λ t. Reported Block-as-BlockKind.group (means store.now) (string_bytes t)) }
+    ensures { IfOk result (λ t. Reported S.Block.group (means store.now) (string_bytes t)) }
 {
     let n = store.size().number();
     let out = out_line(heap, store)?;

@@ -22,7 +22,7 @@ fn make_write<S: WriteStore>(
     area: usize,
     work: &mut [S::Block],
 ) -> Answer<S::Block>
-    ensures { Made S.Block.BlockKind.group (length work.old) (state (S.ReadStore.means book.old.store) book.old.filling) (Write a b x area) result (state (S.ReadStore.means book.new.store) book.new.filling) }
+    ensures { Made S.Block.group (length work.old) (state (S.means book.old.store) book.old.filling) (Write a b x area) result (state (S.means book.new.store) book.new.filling) }
 {
     let len = area.min(work.len());
     match book.write(a, b, x, &mut work[0..len]) {
@@ -38,7 +38,7 @@ fn make_read<S: WriteStore>(
     area: usize,
     work: &mut [S::Block],
 ) -> Answer<S::Block>
-    ensures { Made S.Block.BlockKind.group (length work.old) (state (S.ReadStore.means book.now.store) book.now.filling) (Read a b area) result (state (S.ReadStore.means book.now.store) book.now.filling) }
+    ensures { Made S.Block.group (length work.old) (state (S.means book.now.store) book.now.filling) (Read a b area) result (state (S.means book.now.store) book.now.filling) }
 {
     let len = area.min(work.len());
     let mut block = S::Block::zero();
@@ -49,7 +49,7 @@ fn make_read<S: WriteStore>(
 }
 
 fn make_lose<S: WriteStore>(book: &mut Book<S>, s: u8) -> Answer<S::Block>
-    ensures { (most : ℕ) → Made S.Block.BlockKind.group most (state (S.ReadStore.means book.old.store) book.old.filling) (Lose s) result (state (S.ReadStore.means book.new.store) book.new.filling) }
+    ensures { (most : ℕ) → Made S.Block.group most (state (S.means book.old.store) book.old.filling) (Lose s) result (state (S.means book.new.store) book.new.filling) }
 {
     match book.lose(s) {
         Ok(()) => Answer::Accepted,
@@ -58,7 +58,7 @@ fn make_lose<S: WriteStore>(book: &mut Book<S>, s: u8) -> Answer<S::Block>
 }
 
 fn make_fit<S: WriteStore>(book: &mut Book<S>, s: u8, rack: &mut Rack) -> Answer<S::Block>
-    ensures { (most : ℕ) → Made S.Block.BlockKind.group most (state (S.ReadStore.means book.old.store) book.old.filling) (Fit s) result (state (S.ReadStore.means book.new.store) book.new.filling) }
+    ensures { (most : ℕ) → Made S.Block.group most (state (S.means book.old.store) book.old.filling) (Fit s) result (state (S.means book.new.store) book.new.filling) }
 {
     if !rack.make_room() {
         return Answer::NotMade;
@@ -79,7 +79,7 @@ fn make_fill<S: WriteStore>(
     work: &mut [S::Block],
     rack: &mut Rack,
 ) -> Answer<S::Block>
-    ensures { Made S.Block.BlockKind.group (length work.old) (state (S.ReadStore.means book.old.store) book.old.filling) (Fill s area) result (state (S.ReadStore.means book.new.store) book.new.filling) }
+    ensures { Made S.Block.group (length work.old) (state (S.means book.old.store) book.old.filling) (Fill s area) result (state (S.means book.new.store) book.new.filling) }
 {
     if !rack.make_room() {
         return Answer::NotMade;
@@ -101,7 +101,7 @@ fn make_fill<S: WriteStore>(
 }
 
 fn make_finish<S: WriteStore>(book: &mut Book<S>, s: u8, rack: &mut Rack) -> Answer<S::Block>
-    ensures { (most : ℕ) → Made S.Block.BlockKind.group most (state (S.ReadStore.means book.old.store) book.old.filling) (Finish s) result (state (S.ReadStore.means book.new.store) book.new.filling) }
+    ensures { (most : ℕ) → Made S.Block.group most (state (S.means book.old.store) book.old.filling) (Finish s) result (state (S.means book.new.store) book.new.filling) }
 {
     if !rack.make_room() {
         return Answer::NotMade;
@@ -124,7 +124,7 @@ fn make_abandon<S: WriteStore>(
     full: bool,
     rack: &mut Rack,
 ) -> Answer<S::Block>
-    ensures { (most : ℕ) → Made S.Block.BlockKind.group most (state (S.ReadStore.means book.old.store) book.old.filling) (Abandon s full) result (state (S.ReadStore.means book.new.store) book.new.filling) }
+    ensures { (most : ℕ) → Made S.Block.group most (state (S.means book.old.store) book.old.filling) (Abandon s full) result (state (S.means book.new.store) book.new.filling) }
 {
     let Some(ticket) = rack.take(s, full) else {
         return Answer::NotMade;
@@ -143,7 +143,7 @@ fn make_call<S: WriteStore>(
     work: &mut [S::Block],
     rack: &mut Rack,
 ) -> Answer<S::Block>
-    ensures { Made S.Block.BlockKind.group (length work.old) (state (S.ReadStore.means book.old.store) book.old.filling) call result (state (S.ReadStore.means book.new.store) book.new.filling) }
+    ensures { Made S.Block.group (length work.old) (state (S.means book.old.store) book.old.filling) call result (state (S.means book.new.store) book.new.filling) }
 {
     match call {
         Call::Write { a, b, block, area } => make_write(book, a, b, block, area, work),
@@ -165,8 +165,8 @@ pub fn carry_on<S: WriteStore>(
     rack: &mut Rack,
 )
     ensures calls { calls_of turns.new ≡ calls_of turns.old }
-    ensures promise { CarriesOn S.Block.BlockKind.group (length work.old) (state (S.ReadStore.means book.old.store) book.old.filling) turns.new (state (S.ReadStore.means book.new.store) book.new.filling) }
-    ensures told { Tells S.Block.BlockKind.group (length work.old) (state (S.ReadStore.means book.old.store) book.old.filling) turns.new }
+    ensures promise { CarriesOn S.Block.group (length work.old) (state (S.means book.old.store) book.old.filling) turns.new (state (S.means book.new.store) book.new.filling) }
+    ensures told { Tells S.Block.group (length work.old) (state (S.means book.old.store) book.old.filling) turns.new }
 {
     for i in 0..turns.len() {
         let answer = make_call(book, turns[i].call, work, rack);
@@ -186,10 +186,10 @@ pub fn serve<S: WriteStore>(
     work: &mut [S::Block],
     rack: &mut Rack,
 ) -> Result<(), Fault>
-    ensures answer { result ≡ open_answer (state (S.ReadStore.means book.old.store) book.old.filling) }
+    ensures answer { result ≡ open_answer (state (S.means book.old.store) book.old.filling) }
     ensures calls { calls_of turns.new ≡ calls_of turns.old }
-    ensures promise { After result (Served S.Block.BlockKind.group (length work.old) (state (S.ReadStore.means book.old.store) book.old.filling) turns.new (state (S.ReadStore.means book.new.store) book.new.filling)) ((state (S.ReadStore.means book.new.store) book.new.filling ≡ state (S.ReadStore.means book.old.store) book.old.filling) × (turns.new ≡ turns.old) × (work.new ≡ work.old) × (rack.new ≡ rack.old)) }
-    ensures told { is_ok result ≡ true → ServedTells S.Block.BlockKind.group (length work.old) (state (S.ReadStore.means book.old.store) book.old.filling) turns.new }
+    ensures promise { After result (Served S.Block.group (length work.old) (state (S.means book.old.store) book.old.filling) turns.new (state (S.means book.new.store) book.new.filling)) ((state (S.means book.new.store) book.new.filling ≡ state (S.means book.old.store) book.old.filling) × (turns.new ≡ turns.old) × (work.new ≡ work.old) × (rack.new ≡ rack.old)) }
+    ensures told { is_ok result ≡ true → ServedTells S.Block.group (length work.old) (state (S.means book.old.store) book.old.filling) turns.new }
 {
     book.open()?;
     carry_on(book, turns, work, rack);

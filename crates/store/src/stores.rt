@@ -30,16 +30,16 @@ pub trait ReadStore {
 pub trait WriteStore: ReadStore {
     // Refused as `get` is; else the pair holds the block, and all else stays.
     fn put(&mut self, a: u8, b: u8, x: Self::Block) -> Result<(), Fault>
-        ensures answer { result ≡ get_answer (Self.ReadStore.means self.old) a b }
-        ensures after { After result (Written (Self.ReadStore.means self.old) a b x (Self.ReadStore.means self.new)) (Self.ReadStore.means self.new ≡ Self.ReadStore.means self.old) };
+        ensures answer { result ≡ get_answer (Self.means self.old) a b }
+        ensures after { After result (Written (Self.means self.old) a b x (Self.means self.new)) (Self.means self.new ≡ Self.means self.old) };
 
     // Makes station s out. Refused by 4 s and 6 s.
     fn take_out(&mut self, s: u8) -> Result<(), Fault>
-        ensures answer { result ≡ take_out_answer (Self.ReadStore.means self.old) s }
-        ensures after { After result (Remarked (Self.ReadStore.means self.old) s true (Self.ReadStore.means self.new)) (Self.ReadStore.means self.new ≡ Self.ReadStore.means self.old) };
+        ensures answer { result ≡ take_out_answer (Self.means self.old) s }
+        ensures after { After result (Remarked (Self.means self.old) s true (Self.means self.new)) (Self.means self.new ≡ Self.means self.old) };
 
     // Makes station s in. Refused by 4 s and 7 s.
     fn bring_in(&mut self, s: u8) -> Result<(), Fault>
-        ensures answer { result ≡ bring_in_answer (Self.ReadStore.means self.old) s }
-        ensures after { After result (Remarked (Self.ReadStore.means self.old) s false (Self.ReadStore.means self.new)) (Self.ReadStore.means self.new ≡ Self.ReadStore.means self.old) };
+        ensures answer { result ≡ bring_in_answer (Self.means self.old) s }
+        ensures after { After result (Remarked (Self.means self.old) s false (Self.means self.new)) (Self.means self.new ≡ Self.means self.old) };
 }

@@ -87,7 +87,7 @@ impl<'a, B: BlockKind> Table<'a, B> {
 impl<B: BlockKind> ReadStore for Table<'_, B> {
     type Block = B;
 
-    ghost means = { λ t. table_meaning B.BlockKind.group.none t.size.number t.out.bits t.blocks.row.now };
+    ghost means = { λ t. table_meaning B.group.none t.size.number t.out.bits t.blocks.row.now };
 
     fn size(&self) -> Size {
         self.size

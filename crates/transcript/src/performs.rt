@@ -27,7 +27,7 @@ fn read_pair<S: WriteStore>(
     b: u8,
     work: &mut [S::Block],
 ) -> Response<S::Block>
-    ensures { Performs S.Block.BlockKind.group (state (S.ReadStore.means book.now.store) book.now.filling) (length work.old) (Read a b) result (state (S.ReadStore.means book.now.store) book.now.filling) }
+    ensures { Performs S.Block.group (state (S.means book.now.store) book.now.filling) (length work.old) (Read a b) result (state (S.means book.now.store) book.now.filling) }
 {
     let mut block = S::Block::zero();
     match book.read(a, b, work, &mut block) {
@@ -37,7 +37,7 @@ fn read_pair<S: WriteStore>(
 }
 
 fn audit_all<S: WriteStore>(book: &Book<S>) -> Response<S::Block>
-    ensures { (len : ℕ) → Performs S.Block.BlockKind.group (state (S.ReadStore.means book.now.store) book.now.filling) len Audit result (state (S.ReadStore.means book.now.store) book.now.filling) }
+    ensures { (len : ℕ) → Performs S.Block.group (state (S.means book.now.store) book.now.filling) len Audit result (state (S.means book.now.store) book.now.filling) }
 {
     match book.audit() {
         Ok(verdict) => Response::Found(verdict),
@@ -51,7 +51,7 @@ fn perform<S: WriteStore>(
     request: Request<S::Block>,
     work: &mut [S::Block],
 ) -> Response<S::Block>
-    ensures { Performs S.Block.BlockKind.group (state (S.ReadStore.means book.old.store) book.old.filling) (length work.old) request result (state (S.ReadStore.means book.new.store) book.new.filling) }
+    ensures { Performs S.Block.group (state (S.means book.old.store) book.old.filling) (length work.old) request result (state (S.means book.new.store) book.new.filling) }
 {
     match request {
         Request::Read { a, b } => read_pair(book, a, b, work),
@@ -69,7 +69,7 @@ pub(crate) fn perform_all<S: WriteStore>(
     steps: &mut [Step<S::Block>],
     work: &mut [S::Block],
 )
-    ensures { PerformsAll S.Block.BlockKind.group (state (S.ReadStore.means book.old.store) book.old.filling) (length work.old) steps.old steps.new }
+    ensures { PerformsAll S.Block.group (state (S.means book.old.store) book.old.filling) (length work.old) steps.old steps.new }
 {
     for i in 0..steps.len() {
         let reply = perform(book, steps[i].request, work);

@@ -15,7 +15,7 @@ fn fill_up<S: WriteStore>(
     ticket: OpenTicket,
     work: &mut [S::Block],
 ) -> Result<FullTicket, (OpenTicket, Fault)>
-    ensures { CanFillUp (state (S.ReadStore.means book.old.store) book.old.filling) ticket.station (length work.old) → FilledUp S.Block.BlockKind.group (state (S.ReadStore.means book.old.store) book.old.filling) ticket.station result (state (S.ReadStore.means book.new.store) book.new.filling) }
+    ensures { CanFillUp (state (S.means book.old.store) book.old.filling) ticket.station (length work.old) → FilledUp S.Block.group (state (S.means book.old.store) book.old.filling) ticket.station result (state (S.means book.new.store) book.new.filling) }
 {
     let mut open = ticket;
     for _partner in 0..book.size().number() {
@@ -40,8 +40,8 @@ fn give_up<S: WriteStore>(book: &mut Book<S>, ticket: Ticket, fault: Fault) -> R
 // Fits a station that is out, fills it with one partner after another, and finishes it. Refused by 3 b if the work area is
 // under 8 n blocks, and then as fit is, by 4 s, 7 b, 8 b and 9 b; a refusal changes nothing.
 pub fn replace<S: WriteStore>(book: &mut Book<S>, s: u8, work: &mut [S::Block]) -> Result<(), Fault>
-    ensures answer { result ≡ replace_answer (state (S.ReadStore.means book.old.store) book.old.filling) (length work.old) s }
-    ensures after { After result (Replaced S.Block.BlockKind.group (state (S.ReadStore.means book.old.store) book.old.filling) s (state (S.ReadStore.means book.new.store) book.new.filling)) ((state (S.ReadStore.means book.new.store) book.new.filling) ≡ (state (S.ReadStore.means book.old.store) book.old.filling)) }
+    ensures answer { result ≡ replace_answer (state (S.means book.old.store) book.old.filling) (length work.old) s }
+    ensures after { After result (Replaced S.Block.group (state (S.means book.old.store) book.old.filling) s (state (S.means book.new.store) book.new.filling)) ((state (S.means book.new.store) book.new.filling) ≡ (state (S.means book.old.store) book.old.filling)) }
     ensures work { is_ok result ≡ false → work.new ≡ work.old }
 {
     if work.len() < 8 * usize::from(book.size().number()) {

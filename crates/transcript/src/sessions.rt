@@ -24,7 +24,7 @@ const LIMIT: usize = 16_384;
 
 // Opens a book over a store, and makes every request.
 fn run_on<S: WriteStore + Drop>(store: S, steps: &mut [Step<S::Block>], work: &mut [S::Block])
-    ensures { AllIn (S.ReadStore.means store) → 8 * (S.ReadStore.means store).size ≤ length work.old → Answered S.Block.BlockKind.group (S.ReadStore.means store).size steps.old steps.new }
+    ensures { AllIn (S.means store) → 8 * (S.means store).size ≤ length work.old → Answered S.Block.group (S.means store).size steps.old steps.new }
 {
     let mut book = Book::make(store);
     if book.open().is_ok() {

@@ -7,6 +7,6 @@ use Rattle.recovery.proofs.absent.count_absent.Goals as goal
 
 pub returns : goal.returns
 returns g c =
-    c.count-marks.ensures
-    ∙ ap (absentees (marked c.absent-marks.result.bits)) (c.number.ensures.same ∙ c.size.ensures)
-    ∙ absentees_cong (g.S.ReadStore.means c.args.store.now).size (λ s l. c.absent-marks.ensures s ∙ grind (arith, nat_tests))
+    c.count_marks.ensures
+    ∙ ap (absentees (marked c.absent_marks.result.bits)) (c.number.ensures.same ∙ c.size.ensures)
+    ∙ absentees_cong (g.S.ReadStore.means c.args.store.now).size (λ s l. c.absent_marks.ensures s ∙ grind (arith, nat_tests))

@@ -12,6 +12,6 @@ loop-k-preserved g c =
     let k = c.loop-k.k in
     let q : ℕ = 3 * n + k in
     let l : q < length c.loop-k.work = omega arith in (
-      lay_more G c.loop-k.work (3 * n) q k _ (λ m. diagonal G n f ((c.args.i + m) % n)) refl l c.loop-k.invariant.0 (c.diagonal-sum.ensures ∙ ap (λ x. diagonal G x f ((c.args.i + k) % n)) (sym c.requires.size)),
+      lay_more G c.loop-k.work (3 * n) q k _ (λ m. diagonal G n f ((c.args.i + m) % n)) refl l c.loop-k.invariant.0 (c.diagonal_sum.ensures ∙ ap (λ x. diagonal G x f ((c.args.i + k) % n)) (sym c.requires.size)),
       lay_below G c.args.work.now c.loop-k.work (3 * n) q _ (omega arith) c.loop-k.invariant.1,
     )

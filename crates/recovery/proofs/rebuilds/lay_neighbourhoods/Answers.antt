@@ -12,6 +12,6 @@ loop-h-preserved g c =
     let h = c.loop-h.h in
     let q : ℕ = 2 * n + h in
     let l : q < length c.loop-h.work = omega arith in (
-      lay_more G c.loop-h.work (2 * n) q h _ (neighbourhood G n f) refl l c.loop-h.invariant.0 (c.neighbourhood-sum.ensures ∙ ap (λ x. neighbourhood G x f h) (sym c.requires.size)),
+      lay_more G c.loop-h.work (2 * n) q h _ (neighbourhood G n f) refl l c.loop-h.invariant.0 (c.neighbourhood_sum.ensures ∙ ap (λ x. neighbourhood G x f h) (sym c.requires.size)),
       lay_below G c.args.work.now c.loop-h.work (2 * n) q _ (omega arith) c.loop-h.invariant.1,
     )

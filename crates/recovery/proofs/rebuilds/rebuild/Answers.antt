@@ -14,19 +14,19 @@ returns g c =
     let n = c.number-size.result in
     let e : n ≡ m.size = c.number-size.ensures.same ∙ c.size.ensures in
     let two : Two absent n pair = subst (λ k. Two absent k pair) (sym e) c.requires.two in
-    let sums = c.lay-neighbourhoods.new.work in
-    let area = c.lay-diagonals.new.work in
-    let area' = c.lay-walk.new.work in
+    let sums = c.lay_neighbourhoods.new.work in
+    let area = c.lay_diagonals.new.work in
+    let area' = c.lay_walk.new.work in
     let long : 8 * n ≤ length area' = omega arith in
     let lj : pair.larger < n = two.below in
-    subst (λ k. Rows G k absent m.block pair c.close-rows.new.work) e
-    (assembled G n c.number-size.ensures.prime absent pair two m.block area area' c.lay-rows.new.work c.add-third.result
-    (λ k l. c.lay-diagonals.ensures.same (2 * n + k) (omega arith) ∙ c.lay-neighbourhoods.ensures.sums k l)
-    c.lay-diagonals.ensures.sums
-    c.lay-walk.ensures.walk
-    c.lay-walk.ensures.same
-    (c.add-third.ensures ∙ ap₂ G.sum (get_or_read area' (3 * n + pair.larger) _ (omega arith) c.index-work-n.is G.none) c.walk-sum.ensures)
-    c.lay-rows.ensures
+    subst (λ k. Rows G k absent m.block pair c.close_rows.new.work) e
+    (assembled G n c.number-size.ensures.prime absent pair two m.block area area' c.lay_rows.new.work c.add-third.result
+    (λ k l. c.lay_diagonals.ensures.same (2 * n + k) (omega arith) ∙ c.lay_neighbourhoods.ensures.sums k l)
+    c.lay_diagonals.ensures.sums
+    c.lay_walk.ensures.walk
+    c.lay_walk.ensures.same
+    (c.add-third.ensures ∙ ap₂ G.sum (get_or_read area' (3 * n + pair.larger) _ (omega arith) c.index-work-n.is G.none) c.walk_sum.ensures)
+    c.lay_rows.ensures
     (omega arith)
-    c.close-rows.new.work
-    c.close-rows.ensures)
+    c.close_rows.new.work
+    c.close_rows.ensures)

@@ -9,9 +9,9 @@ use Rattle.recovery.proofs.rebuilds.rebuild_two.Goals as goal
 pub rebuild-requires : goal.rebuild-requires
 rebuild-requires g c =
     let e : c.number-n.result ≡ (g.S.ReadStore.means c.args.store.now).size = c.number-n.ensures.same ∙ c.size.ensures in
-    let marks = c.absent-marks-absent.result.bits in
+    let marks = c.absent_marks-absent.result.bits in
     record {
-      covers = marks_cover (g.S.ReadStore.means c.args.store.now) c.args.also.bits marks c.absent-marks-absent.ensures;
+      covers = marks_cover (g.S.ReadStore.means c.args.store.now) c.args.also.bits marks c.absent_marks-absent.ensures;
       two = subst (λ n. Two (marked marks) n c.in-Some.pair) e c.in-Some.ensures.0;
       long = omega arith;
     }
@@ -20,8 +20,8 @@ pub returns-in-Some : goal.returns-in-Some
 returns-in-Some g c =
     let m = g.S.ReadStore.means c.args.store.now in
     let e : c.number-n.result ≡ m.size = c.number-n.ensures.same ∙ c.size.ensures in
-    let marks = c.absent-marks-absent.result.bits in
-    let right = marks_right m c.args.also.bits marks c.absent-marks-absent.ensures in
+    let marks = c.absent_marks-absent.result.bits in
+    let right = marks_right m c.args.also.bits marks c.absent_marks-absent.ensures in
     let two : Two (marked marks) m.size c.in-Some.pair = subst (λ n. Two (marked marks) n c.in-Some.pair) e c.in-Some.ensures.0 in (
       omega arith,
       sym (absentees_cong m.size right) ∙ ap (absentees (marked marks)) (sym e) ∙ c.in-Some.ensures.1,

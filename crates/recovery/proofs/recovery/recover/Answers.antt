@@ -8,7 +8,7 @@ pub returns : goal.returns
 returns g c =
     let m = g.S.ReadStore.means c.args.store.now in
     let bits = c.none.result.bits in
-    let r = c.recover-beside.ensures in
+    let r = c.recover_beside.ensures in
     let same : (s : ℕ) → s < m.size → absent_of m bits s ≡ m.out s = (λ s _. ap (λ b. m.out s || b) (c.none.ensures s) ∙ or_false (m.out s)) in
     record {
       answer = r.answer ∙ answer_cong m.size same (length c.args.work.now) c.args.a c.args.b;

@@ -17,7 +17,7 @@ loop-a-preserved g c =
     let b : ℕ = mate c.number-n.result c.args.m a in
     let term = share G c.number-n.result f c.args.m in
     elim c.if-b-a.branch [
-      | then-b-a w ↦ w.sum-is ∙ w.add-sum.ensures ∙ sum_more G term a _ _ c.loop-a.invariant (w.kept-block.ensures ∙ of_le f a b w.if-b-a.true ∙ sym (cond-true (leb b a) (f a b) G.none (le-leb b a w.if-b-a.true)))
+      | then-b-a w ↦ w.sum-is ∙ w.add-sum.ensures ∙ sum_more G term a _ _ c.loop-a.invariant (w.kept_block.ensures ∙ of_le f a b w.if-b-a.true ∙ sym (cond-true (leb b a) (f a b) G.none (le-leb b a w.if-b-a.true)))
       | else-b-a w ↦ w.sum-is ∙ sum_skip G term a _ c.loop-a.invariant (cond-false (leb b a) (f a b) G.none (lt-leb b a w.if-b-a.false))
     ]
 

@@ -13,7 +13,7 @@ loop-k-preserved g c =
     let h = c.args.h in
     let term : ℕ → g.row.S-Block.Denot = λ k. cond (eqb k h) G.none (of f h k) in
     elim c.if-k-h.branch [
-      | then-k-h w ↦ w.sum-is ∙ w.add-sum.ensures ∙ sum_more G term c.loop-k.k _ _ c.loop-k.invariant (w.kept-block.ensures ∙ sym (cond_ne c.loop-k.k h G.none (of f h c.loop-k.k) w.if-k-h.true))
+      | then-k-h w ↦ w.sum-is ∙ w.add-sum.ensures ∙ sum_more G term c.loop-k.k _ _ c.loop-k.invariant (w.kept_block.ensures ∙ sym (cond_ne c.loop-k.k h G.none (of f h c.loop-k.k) w.if-k-h.true))
       | else-k-h w ↦ w.sum-is ∙ sum_skip G term c.loop-k.k _ c.loop-k.invariant (cond_eq c.loop-k.k h G.none (of f h c.loop-k.k) w.if-k-h.false)
     ]
 
