@@ -5,7 +5,7 @@ use Rattle.store.specs.Meaning.{absent_of}
 use Rattle.audit.proofs.First.{first_none}
 use Rattle.audit.proofs.audits.audit_beside.Goals as goal
 
-pub first-broken-requires : goal.first-broken-requires
-first-broken-requires g c κs s l =
+pub first_broken-requires : goal.first_broken-requires
+first_broken-requires g c s l =
     let m = g.S.ReadStore.means c.args.store.now in
     (or_parts (m.out s) (marked c.args.also.bits s) (first_none (absent_of m c.args.also.bits) m.size (sym c.in-None.ensures) s l)).0

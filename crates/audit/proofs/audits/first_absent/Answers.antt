@@ -9,14 +9,14 @@ loop-s-preserved g c =
     let m = g.S.ReadStore.means c.args.store.now in
     let l : c.loop-s.s < m.size = omega (arith, c.size.ensures) in
     first_skip (absent_of m c.args.also.bits) c.loop-s.s c.loop-s.invariant
-    (ap (λ t. t && absent_of m c.args.also.bits c.loop-s.s) (sym (lt-ltb c.loop-s.s m.size l)) ∙ sym c.if-is-absent.ensures)
+    (ap (λ t. t && absent_of m c.args.also.bits c.loop-s.s) (sym (lt-ltb c.loop-s.s m.size l)) ∙ sym c.if-is_absent.ensures)
 
-pub returns-then-is-absent : goal.returns-then-is-absent
-returns-then-is-absent g c =
+pub returns-then-is_absent : goal.returns-then-is_absent
+returns-then-is_absent g c =
     let m = g.S.ReadStore.means c.args.store.now in
     let l : c.loop-s.s < m.size = omega (arith, c.size.ensures) in
     sym (first_hit (absent_of m c.args.also.bits) c.loop-s.s m.size c.loop-s.invariant
-    (ap (λ t. t && absent_of m c.args.also.bits c.loop-s.s) (sym (lt-ltb c.loop-s.s m.size l)) ∙ sym c.if-is-absent.ensures) l)
+    (ap (λ t. t && absent_of m c.args.also.bits c.loop-s.s) (sym (lt-ltb c.loop-s.s m.size l)) ∙ sym c.if-is_absent.ensures) l)
 
 pub returns : goal.returns
 returns g c =

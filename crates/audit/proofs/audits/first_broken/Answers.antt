@@ -11,7 +11,7 @@ use Rattle.audit.proofs.audits.first_broken.Goals.{then-k-h, else-k-h, then-b-a,
 
 pub loop-k-preserved : goal.loop-k-preserved
 loop-k-preserved g c =
-    let G = g.Block.BlockKind.group in
+    let G = g.S.Block.BlockKind.group in
     let m = g.S.ReadStore.means c.args.store.now in
     let h : ℕ = c.loop-h.h in
     let k : ℕ = c.loop-k.k in
@@ -29,7 +29,7 @@ loop-k-preserved g c =
 
 pub loop-h-preserved : goal.loop-h-preserved
 loop-h-preserved g c =
-    let G = g.Block.BlockKind.group in
+    let G = g.S.Block.BlockKind.group in
     let m = g.S.ReadStore.means c.args.store.now in
     let h : ℕ = c.loop-h.h in
     let e : c.loop-k.k ≡ m.size = omega (arith, c.size.ensures, c.number-n.ensures.same, c.loop-k-test.false, c.loop-k.auto.k-end) in
@@ -38,7 +38,7 @@ loop-h-preserved g c =
 
 pub loop-a-preserved : goal.loop-a-preserved
 loop-a-preserved g c =
-    let G = g.Block.BlockKind.group in
+    let G = g.S.Block.BlockKind.group in
     let m = g.S.ReadStore.means c.args.store.now in
     let d : ℕ = c.loop-m.m in
     let a : ℕ = c.loop-a.a in
@@ -64,7 +64,7 @@ loop-a-preserved g c =
 -- the sum over all stations is the diagonal
 pub loop-m-preserved : goal.loop-m-preserved
 loop-m-preserved g c =
-    let G = g.Block.BlockKind.group in
+    let G = g.S.Block.BlockKind.group in
     let m = g.S.ReadStore.means c.args.store.now in
     let d : ℕ = c.loop-m.m in
     let en : c.number-n.result ≡ m.size = c.number-n.ensures.same ∙ c.size.ensures in
@@ -76,7 +76,7 @@ loop-m-preserved g c =
 
 pub returns-then-not-same-2 : goal.returns-then-not-same-2
 returns-then-not-same-2 g c =
-    let G = g.Block.BlockKind.group in
+    let G = g.S.Block.BlockKind.group in
     let m = g.S.ReadStore.means c.args.store.now in
     let d : ℕ = c.loop-m.m in
     let en : c.number-n.result ≡ m.size = c.number-n.ensures.same ∙ c.size.ensures in

@@ -6,12 +6,12 @@ use Rattle.book.proofs.fills.fill_pair.Goals as goal
 pub returns-then-is-ok : goal.returns-then-is-ok
 returns-then-is-ok g c can =
     filled_put (state (g.S.ReadStore.means c.args.store.now) c.args.filling) c.args.t c.args.next (length c.args.work.now) can
-    g.Block.BlockKind.group (g.S.ReadStore.means c.put.new.self) c.size.result.number c.marks-also.result.bits c.size.ensures c.marks-also.ensures
+    g.S.Block.BlockKind.group (g.S.ReadStore.means c.put.new.self) c.size.result.number c.marks-also.result.bits c.size.ensures c.marks-also.ensures
     c.recover-beside.result c.recover-beside.new.into c.put.result
     c.if-is-ok.ensures.value c.recover-beside.ensures.block c.put.ensures.answer c.put.ensures.after
 
 pub returns-else-is-ok : goal.returns-else-is-ok
 returns-else-is-ok g c can =
     filled_never (state (g.S.ReadStore.means c.args.store.now) c.args.filling) c.args.t c.args.next (length c.args.work.now) can
-    g.Block.BlockKind.group (g.S.ReadStore.means c.args.store.now) c.size.result.number c.marks-also.result.bits c.size.ensures c.marks-also.ensures
+    g.S.Block.BlockKind.group (g.S.ReadStore.means c.args.store.now) c.size.result.number c.marks-also.result.bits c.size.ensures c.marks-also.ensures
     c.recover-beside.result c.if-is-ok.ensures.value c.recover-beside.ensures.answer

@@ -5,7 +5,7 @@ use Rattle.state.proofs.Cleared.{rows_none, rows_more}
 use Rattle.book.proofs.opens.clear.Goals as goal
 
 pub loop-a-init : goal.loop-a-init
-loop-a-init g c = rows_none g.Block.BlockKind.group (g.S.ReadStore.means c.args.store.now)
+loop-a-init g c = rows_none g.S.Block.BlockKind.group (g.S.ReadStore.means c.args.store.now)
 
 pub clear-row-requires : goal.clear-row-requires
 clear-row-requires g c =
@@ -19,7 +19,7 @@ clear-row-requires g c =
 
 pub loop-a-preserved : goal.loop-a-preserved
 loop-a-preserved g c =
-    rows_more g.Block.BlockKind.group (g.S.ReadStore.means c.args.store.now) (g.S.ReadStore.means c.loop-a.store) (g.S.ReadStore.means c.clear-row.new.store) c.loop-a.a
+    rows_more g.S.Block.BlockKind.group (g.S.ReadStore.means c.args.store.now) (g.S.ReadStore.means c.loop-a.store) (g.S.ReadStore.means c.clear-row.new.store) c.loop-a.a
     (omega (arith, c.size.ensures, c.number-a-end.ensures.same)) c.loop-a.invariant c.clear-row.ensures
 
 pub returns : goal.returns
@@ -27,6 +27,6 @@ returns g c =
     let m = g.S.ReadStore.means c.args.store.now in
     let e : c.loop-a.a ≡ m.size = omega (arith, c.size.ensures, c.number-a-end.ensures.same) in
     record {
-      cleared = subst (λ k. RowsCleared g.Block.BlockKind.group m k (g.S.ReadStore.means c.loop-a.store)) e c.loop-a.invariant;
+      cleared = subst (λ k. RowsCleared g.S.Block.BlockKind.group m k (g.S.ReadStore.means c.loop-a.store)) e c.loop-a.invariant;
       prime = subst OddPrime (c.number-a-end.ensures.same ∙ c.size.ensures) c.number-a-end.ensures.prime;
     }

@@ -6,7 +6,7 @@ use Rattle.book.proofs.writes.add_row.Goals as goal
 
 pub loop-k-preserved : goal.loop-k-preserved
 loop-k-preserved g c =
-    let G = g.Block.BlockKind.group in
+    let G = g.S.Block.BlockKind.group in
     let m = g.S.ReadStore.means c.args.store.now in
     let m₁ = g.S.ReadStore.means c.loop-k.store in
     let m₂ = g.S.ReadStore.means c.add-to.new.store in

@@ -4,7 +4,7 @@ use Rattle.book.proofs.writes.spread.Goals as goal
 
 pub returns : goal.returns
 returns g c =
-    let G = g.Block.BlockKind.group in
+    let G = g.S.Block.BlockKind.group in
     let made = c.new-pulse.result in
     spread_from G (g.S.ReadStore.means c.args.store.now)
     (g.S.ReadStore.means c.add-row.new.store) (g.S.ReadStore.means c.add-row-2.new.store) (g.S.ReadStore.means c.add-to.new.store) c.args.a c.args.b c.args.d

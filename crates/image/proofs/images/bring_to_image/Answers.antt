@@ -9,11 +9,11 @@ use Rattle.image.proofs.images.bring_to_image.Goals as goal
 
 pub returns : goal.returns
 returns c =
-    let l : c.args.s < c.size-in.result.number = back_below c.size-in.result.number (marked c.marks-in-out.result.bits) c.args.s (ap is_ok (sym c.in-ok-admit-in.ensures)) in
-    let w : c.args.s < 32 = omega (arith, size_small c.size-in.result.number c.size-in.result.allowed) in (
-      c.in-ok-admit-in.ensures ∙ ap₂ (λ k bits. back_answer k (marked bits) c.args.s) c.size-in.ensures c.marks-in-out.ensures,
+    let l : c.args.s < c.size_in.result.number = back_below c.size_in.result.number (marked c.marks_in-out.result.bits) c.args.s (ap is_ok (sym c.in_ok-admit_in.ensures)) in
+    let w : c.args.s < 32 = omega (arith, size_small c.size_in.result.number c.size_in.result.allowed) in (
+      c.in_ok-admit_in.ensures ∙ ap₂ (λ k bits. back_answer k (marked bits) c.args.s) c.size_in.ensures c.marks_in-out.ensures,
       brought_in c.args.bytes.now c.overwrite.new.bytes c.args.s c.with.result.bits c.with.result.narrow
-          (subst (λ xs. Overwritten c.args.bytes.now 6 xs c.overwrite.new.bytes) (c.to-be-bytes.ensures ∙ ap be_bytes c.bits.ensures) c.overwrite.ensures)
-          (subst (λ bits. Marked bits c.args.s false c.with.result.bits) c.marks-in-out.ensures (c.with.ensures.marks w))
-          (c.with.ensures.low (image_size c.args.bytes.now) (omega (arith, c.size-in.ensures)) (ap (λ m. m / 2 ^ image_size c.args.bytes.now) c.marks-in-out.ensures ∙ (checked c.args.bytes.now c.requires).marks)),
+          (subst (λ xs. Overwritten c.args.bytes.now 6 xs c.overwrite.new.bytes) (c.to_be_bytes.ensures ∙ ap be_bytes c.bits.ensures) c.overwrite.ensures)
+          (subst (λ bits. Marked bits c.args.s false c.with.result.bits) c.marks_in-out.ensures (c.with.ensures.marks w))
+          (c.with.ensures.low (image_size c.args.bytes.now) (omega (arith, c.size_in.ensures)) (ap (λ m. m / 2 ^ image_size c.args.bytes.now) c.marks_in-out.ensures ∙ (checked c.args.bytes.now c.requires).marks)),
     )

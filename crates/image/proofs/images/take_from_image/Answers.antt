@@ -9,13 +9,13 @@ use Rattle.image.proofs.images.take_from_image.Goals as goal
 
 pub returns : goal.returns
 returns c =
-    let n : c.size-in-size.result.number ≡ image_size c.args.bytes.now = c.size-in-size.ensures in
-    let l : c.args.s < c.size-in-size.result.number = out_below c.size-in-size.result.number (marked c.marks-in-out.result.bits) c.args.s (ap is_ok (sym c.in-ok-admit-out.ensures)) in
-    let w : c.args.s < 32 = omega (arith, size_small c.size-in-size.result.number c.size-in-size.result.allowed) in (
-      c.in-ok-admit-out.ensures ∙ ap₂ (λ k bits. out_answer k (marked bits) c.args.s) n c.marks-in-out.ensures,
-      taken_out c.args.bytes.now c.fill-lost.new.bytes c.overwrite.new.bytes c.args.s c.with.result.bits c.with.result.narrow
-          (subst (λ k. Filled c.args.bytes.now c.args.s k c.fill-lost.new.bytes) (c.number.ensures.same ∙ n) c.fill-lost.ensures)
-          (subst (λ xs. Overwritten c.fill-lost.new.bytes 6 xs c.overwrite.new.bytes) (c.to-be-bytes.ensures ∙ ap be_bytes c.bits.ensures) c.overwrite.ensures)
-          (subst (λ bits. Marked bits c.args.s true c.with.result.bits) c.marks-in-out.ensures (c.with.ensures.marks w))
-          (c.with.ensures.low (image_size c.args.bytes.now) (omega (arith, c.size-in-size.ensures)) (ap (λ m. m / 2 ^ image_size c.args.bytes.now) c.marks-in-out.ensures ∙ (checked c.args.bytes.now c.requires).marks)),
+    let n : c.size_in-size.result.number ≡ image_size c.args.bytes.now = c.size_in-size.ensures in
+    let l : c.args.s < c.size_in-size.result.number = out_below c.size_in-size.result.number (marked c.marks_in-out.result.bits) c.args.s (ap is_ok (sym c.in_ok-admit_out.ensures)) in
+    let w : c.args.s < 32 = omega (arith, size_small c.size_in-size.result.number c.size_in-size.result.allowed) in (
+      c.in_ok-admit_out.ensures ∙ ap₂ (λ k bits. out_answer k (marked bits) c.args.s) n c.marks_in-out.ensures,
+      taken_out c.args.bytes.now c.fill_lost.new.bytes c.overwrite.new.bytes c.args.s c.with.result.bits c.with.result.narrow
+          (subst (λ k. Filled c.args.bytes.now c.args.s k c.fill_lost.new.bytes) (c.number.ensures.same ∙ n) c.fill_lost.ensures)
+          (subst (λ xs. Overwritten c.fill_lost.new.bytes 6 xs c.overwrite.new.bytes) (c.to_be_bytes.ensures ∙ ap be_bytes c.bits.ensures) c.overwrite.ensures)
+          (subst (λ bits. Marked bits c.args.s true c.with.result.bits) c.marks_in-out.ensures (c.with.ensures.marks w))
+          (c.with.ensures.low (image_size c.args.bytes.now) (omega (arith, c.size_in-size.ensures)) (ap (λ m. m / 2 ^ image_size c.args.bytes.now) c.marks_in-out.ensures ∙ (checked c.args.bytes.now c.requires).marks)),
     )

@@ -14,9 +14,9 @@ no_size bs l v e =
     let u : eqb (image_version bs) 1 ≡ true = eq-eqb (image_version bs) 1 v in
     rw (t, u, e)
 
-pub returns-in-err-size : goal.returns-in-err-size
-returns-in-err-size c =
-    let p = err_from_is_err_and c.from-residual.result c.from-residual.ensures.1 in
-    let q = c.in-err-size.ensures in
+pub returns-in_err-size : goal.returns-in_err-size
+returns-in_err-size c =
+    let p = err_from_is_err_and c.from_residual.result c.from_residual.ensures.1 in
+    let q = c.in_err-size.ensures in
     let l : 10 ≤ length c.args.bytes.now = omega (arith, ltb-false) in
     p.1 ∙ ap Err (p.2 ∙ q.0) ∙ sym (no_size c.args.bytes.now l c.if-version-ne1.false (unlisted (image_size c.args.bytes.now) q.1))

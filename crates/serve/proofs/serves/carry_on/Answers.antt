@@ -10,11 +10,11 @@ use Rattle.serve.proofs.serves.carry_on.Goals as goal
 pub loop-i-init : goal.loop-i-init
 loop-i-init g c =
     let b = c.args.book.now in
-    (refl, λ t M. (promise_none g.Block.BlockKind.group (length c.args.work.now) t (state (g.S.ReadStore.means b.store) b.filling) M, M), λ t M. tt)
+    (refl, λ t M. (promise_none g.S.Block.BlockKind.group (length c.args.work.now) t (state (g.S.ReadStore.means b.store) b.filling) M, M), λ t M. tt)
 
 pub loop-i-preserved : goal.loop-i-preserved
 loop-i-preserved g c =
-    let G = g.Block.BlockKind.group in
+    let G = g.S.Block.BlockKind.group in
     let b = c.args.book.now in
     let b₁ = c.loop-i.book in
     let b₂ = c.make-call-answer.new.book in
@@ -38,7 +38,7 @@ loop-i-preserved g c =
 
 pub returns : goal.returns
 returns g c =
-    let G = g.Block.BlockKind.group in
+    let G = g.S.Block.BlockKind.group in
     let b = c.args.book.now in
     let b₁ = c.loop-i.book in
     let m = g.S.ReadStore.means in

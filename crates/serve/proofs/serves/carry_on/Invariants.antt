@@ -9,5 +9,5 @@ invariant-loop-i g l =
     let st = state (m l.initial.book.store) l.initial.book.filling in
     let st' = state (m l.book.store) l.book.filling in
     (calls_of l.turns ≡ calls_of l.initial.turns)
-    × CarriesOn g.Block.BlockKind.group (length l.initial.work) st (take l.i l.turns) st'
-    × Tells g.Block.BlockKind.group (length l.initial.work) st (take l.i l.turns)
+    × CarriesOn g.S.Block.BlockKind.group (length l.initial.work) st (take l.i l.turns) st'
+    × Tells g.S.Block.BlockKind.group (length l.initial.work) st (take l.i l.turns)

@@ -8,25 +8,25 @@ returns-in-Lose g c =
     let b = c.args.book.now in
     let b' = c.make-lose.new.book in
     let most = length c.args.work.now in
-    subst (λ call. Made g.Block.BlockKind.group most (state (g.S.ReadStore.means b.store) b.filling) call c.make-lose.result (state (g.S.ReadStore.means b'.store) b'.filling)) (sym c.in-Lose.is) (c.make-lose.ensures most)
+    subst (λ call. Made g.S.Block.BlockKind.group most (state (g.S.ReadStore.means b.store) b.filling) call c.make-lose.result (state (g.S.ReadStore.means b'.store) b'.filling)) (sym c.in-Lose.is) (c.make-lose.ensures most)
 
 pub returns-in-Fit : goal.returns-in-Fit
 returns-in-Fit g c =
     let b = c.args.book.now in
     let b' = c.make-fit.new.book in
     let most = length c.args.work.now in
-    subst (λ call. Made g.Block.BlockKind.group most (state (g.S.ReadStore.means b.store) b.filling) call c.make-fit.result (state (g.S.ReadStore.means b'.store) b'.filling)) (sym c.in-Fit.is) (c.make-fit.ensures most)
+    subst (λ call. Made g.S.Block.BlockKind.group most (state (g.S.ReadStore.means b.store) b.filling) call c.make-fit.result (state (g.S.ReadStore.means b'.store) b'.filling)) (sym c.in-Fit.is) (c.make-fit.ensures most)
 
 pub returns-in-Finish : goal.returns-in-Finish
 returns-in-Finish g c =
     let b = c.args.book.now in
     let b' = c.make-finish.new.book in
     let most = length c.args.work.now in
-    subst (λ call. Made g.Block.BlockKind.group most (state (g.S.ReadStore.means b.store) b.filling) call c.make-finish.result (state (g.S.ReadStore.means b'.store) b'.filling)) (sym c.in-Finish.is) (c.make-finish.ensures most)
+    subst (λ call. Made g.S.Block.BlockKind.group most (state (g.S.ReadStore.means b.store) b.filling) call c.make-finish.result (state (g.S.ReadStore.means b'.store) b'.filling)) (sym c.in-Finish.is) (c.make-finish.ensures most)
 
 pub returns-in-Abandon : goal.returns-in-Abandon
 returns-in-Abandon g c =
     let b = c.args.book.now in
     let b' = c.make-abandon.new.book in
     let most = length c.args.work.now in
-    subst (λ call. Made g.Block.BlockKind.group most (state (g.S.ReadStore.means b.store) b.filling) call c.make-abandon.result (state (g.S.ReadStore.means b'.store) b'.filling)) (sym c.in-Abandon.is) (c.make-abandon.ensures most)
+    subst (λ call. Made g.S.Block.BlockKind.group most (state (g.S.ReadStore.means b.store) b.filling) call c.make-abandon.result (state (g.S.ReadStore.means b'.store) b'.filling)) (sym c.in-Abandon.is) (c.make-abandon.ensures most)

@@ -20,7 +20,7 @@ all_in st e = first_none st.store.out (size_of st) (none (first st.store.out (si
 
 pub returns : goal.returns
 returns g c =
-    let G = g.Block.BlockKind.group in
+    let G = g.S.Block.BlockKind.group in
     let b = c.args.book.now in
     let b₁ = c.open.new.self in
     let b₂ = c.carry-on.new.book in

@@ -8,11 +8,11 @@ pub returns-in-Read : goal.returns-in-Read
 returns-in-Read g c t R =
     let b = c.args.book.now in
     let st = state (g.S.ReadStore.means b.store) b.filling in
-    subst (λ q. Performed g.Block.BlockKind.group t st (length c.args.work.now) q c.read-pair.result st) (sym c.in-Read.is) (c.read-pair.ensures t R)
+    subst (λ q. Performed g.S.Block.BlockKind.group t st (length c.args.work.now) q c.read-pair.result st) (sym c.in-Read.is) (c.read-pair.ensures t R)
 
 pub returns-in-Write : goal.returns-in-Write
 returns-in-Write g c t R =
-    let G = g.Block.BlockKind.group in
+    let G = g.S.Block.BlockKind.group in
     let b = c.args.book.now in
     let b' = c.write.new.self in
     let st = state (g.S.ReadStore.means b.store) b.filling in
@@ -24,7 +24,7 @@ returns-in-Write g c t R =
 
 pub returns-in-Lose : goal.returns-in-Lose
 returns-in-Lose g c t R =
-    let G = g.Block.BlockKind.group in
+    let G = g.S.Block.BlockKind.group in
     let m = g.S.ReadStore.means in
     let b = c.args.book.now in
     let b' = c.lose.new.self in
@@ -35,7 +35,7 @@ returns-in-Lose g c t R =
 
 pub returns-in-Replace : goal.returns-in-Replace
 returns-in-Replace g c t R =
-    let G = g.Block.BlockKind.group in
+    let G = g.S.Block.BlockKind.group in
     let b = c.args.book.now in
     let b' = c.replace.new.book in
     let st = state (g.S.ReadStore.means b.store) b.filling in
@@ -49,4 +49,4 @@ returns-in-Audit g c t R =
     let b = c.args.book.now in
     let st = state (g.S.ReadStore.means b.store) b.filling in
     let len = length c.args.work.now in
-    subst (λ q. Performed g.Block.BlockKind.group t st len q c.audit-all.result st) (sym c.in-Audit.is) (c.audit-all.ensures len t R)
+    subst (λ q. Performed g.S.Block.BlockKind.group t st len q c.audit-all.result st) (sym c.in-Audit.is) (c.audit-all.ensures len t R)

@@ -10,11 +10,11 @@ use Rattle.transcript.proofs.performs.perform_all.Goals as goal
 pub loop-i-init : goal.loop-i-init
 loop-i-init g c =
     let b = c.args.book.now in
-    (refl, λ t R. none_yet g.Block.BlockKind.group t (state (g.S.ReadStore.means b.store) b.filling) (length c.args.work.now) c.args.steps.now R)
+    (refl, λ t R. none_yet g.S.Block.BlockKind.group t (state (g.S.ReadStore.means b.store) b.filling) (length c.args.work.now) c.args.steps.now R)
 
 pub loop-i-preserved : goal.loop-i-preserved
 loop-i-preserved g c =
-    let G = g.Block.BlockKind.group in
+    let G = g.S.Block.BlockKind.group in
     let m = g.S.ReadStore.means in
     let b = c.args.book.now in
     let b₁ = c.loop-i.book in
@@ -34,7 +34,7 @@ loop-i-preserved g c =
 
 pub returns : goal.returns
 returns g c =
-    let G = g.Block.BlockKind.group in
+    let G = g.S.Block.BlockKind.group in
     let m = g.S.ReadStore.means in
     let b = c.args.book.now in
     let b₁ = c.loop-i.book in

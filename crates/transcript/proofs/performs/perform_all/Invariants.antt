@@ -13,4 +13,4 @@ invariant-loop-i g l =
     let st' = state (m l.book.store) l.book.filling in
     let len = length l.initial.work in
     (requests_of l.steps ≡ requests_of l.initial.steps)
-    × ((t : Tally g.row.S-Block.Denot) → Ready g.Block.BlockKind.group t st len → PerformedTo g.Block.BlockKind.group t st len l.i l.steps st')
+    × ((t : Tally g.row.S-Block.Denot) → Ready g.S.Block.BlockKind.group t st len → PerformedTo g.S.Block.BlockKind.group t st len l.i l.steps st')

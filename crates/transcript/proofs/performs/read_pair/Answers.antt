@@ -7,9 +7,9 @@ pub returns-in-Ok : goal.returns-in-Ok
 returns-in-Ok g c t R =
     let b = c.args.book.now in
     let h = c.in-Ok.ensures in
-    performed_read g.Block.BlockKind.group t (state (g.S.ReadStore.means b.store) b.filling) (length c.args.work.now) R c.args.a c.args.b c.read.new.into h.answer (h.block refl)
+    performed_read g.S.Block.BlockKind.group t (state (g.S.ReadStore.means b.store) b.filling) (length c.args.work.now) R c.args.a c.args.b c.read.new.into h.answer (h.block refl)
 
 pub returns-in-Err : goal.returns-in-Err
 returns-in-Err g c t R =
     let b = c.args.book.now in
-    refused_read g.Block.BlockKind.group t (state (g.S.ReadStore.means b.store) b.filling) (length c.args.work.now) R c.args.a c.args.b c.in-Err.fault c.in-Err.ensures.answer
+    refused_read g.S.Block.BlockKind.group t (state (g.S.ReadStore.means b.store) b.filling) (length c.args.work.now) R c.args.a c.args.b c.in-Err.fault c.in-Err.ensures.answer

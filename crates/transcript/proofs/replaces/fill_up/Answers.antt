@@ -9,11 +9,11 @@ use Rattle.transcript.proofs.replaces.fill_up.Goals as goal
 pub loop-partner-init : goal.loop-partner-init
 loop-partner-init g c =
     let b = c.args.book.now in
-    (refl, λ can. (begun g.Block.BlockKind.group (state (g.S.ReadStore.means b.store) b.filling) c.args.ticket.station (length c.args.work.now) can, λ h. absurd (omega arith)))
+    (refl, λ can. (begun g.S.Block.BlockKind.group (state (g.S.ReadStore.means b.store) b.filling) c.args.ticket.station (length c.args.work.now) can, λ h. absurd (omega arith)))
 
 pub returns-in-Full : goal.returns-in-Full
 returns-in-Full g c can =
-    let G = g.Block.BlockKind.group in
+    let G = g.S.Block.BlockKind.group in
     let m = g.S.ReadStore.means in
     let b = c.args.book.now in
     let b₁ = c.loop-partner.book in
@@ -33,7 +33,7 @@ returns-in-Full g c can =
 
 pub returns-in-Err : goal.returns-in-Err
 returns-in-Err g c can =
-    let G = g.Block.BlockKind.group in
+    let G = g.S.Block.BlockKind.group in
     let m = g.S.ReadStore.means in
     let b = c.args.book.now in
     let b₁ = c.loop-partner.book in
@@ -49,7 +49,7 @@ returns-in-Err g c can =
 
 pub loop-partner-preserved : goal.loop-partner-preserved
 loop-partner-preserved g c =
-    let G = g.Block.BlockKind.group in
+    let G = g.S.Block.BlockKind.group in
     let m = g.S.ReadStore.means in
     let b = c.args.book.now in
     let b₁ = c.loop-partner.book in

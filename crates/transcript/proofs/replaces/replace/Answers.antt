@@ -25,13 +25,13 @@ returns-in-err-ticket g c =
     let e : c.from-residual.result ≡ Err c.in-err-ticket.field-0.0 = search rules in
     record {
       answer = e ∙ h.answer ∙ passed_on st (length c.args.work.now) c.args.s l;
-      after = subst (λ r. After r (Replaced g.Block.BlockKind.group st c.args.s st₁) (st₁ ≡ st)) (sym e) (ap₂ state h.after h.filling);
+      after = subst (λ r. After r (Replaced g.S.Block.BlockKind.group st c.args.s st₁) (st₁ ≡ st)) (sym e) (ap₂ state h.after h.filling);
       work = λ _. refl;
     }
 
 pub returns-in-Ok-finish : goal.returns-in-Ok-finish
 returns-in-Ok-finish g c =
-    let G = g.Block.BlockKind.group in
+    let G = g.S.Block.BlockKind.group in
     let m = g.S.ReadStore.means in
     let b = c.args.book.now in
     let b₁ = c.fit.new.self in
@@ -56,7 +56,7 @@ returns-in-Ok-finish g c =
 
 pub returns-in-Err-finish : goal.returns-in-Err-finish
 returns-in-Err-finish g c =
-    let G = g.Block.BlockKind.group in
+    let G = g.S.Block.BlockKind.group in
     let m = g.S.ReadStore.means in
     let b = c.args.book.now in
     let b₁ = c.fit.new.self in
@@ -76,7 +76,7 @@ returns-in-Err-finish g c =
 
 pub returns-in-Err : goal.returns-in-Err
 returns-in-Err g c =
-    let G = g.Block.BlockKind.group in
+    let G = g.S.Block.BlockKind.group in
     let m = g.S.ReadStore.means in
     let b = c.args.book.now in
     let b₁ = c.fit.new.self in

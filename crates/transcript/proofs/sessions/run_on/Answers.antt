@@ -12,7 +12,7 @@ use Rattle.transcript.proofs.sessions.run_on.Goals as goal
 
 pub returns-then-is-ok : goal.returns-then-is-ok
 returns-then-is-ok g c all long =
-    let G = g.Block.BlockKind.group in
+    let G = g.S.Block.BlockKind.group in
     let m = g.S.ReadStore.means in
     let b = c.make-book.result in
     let b₁ = c.«open».new.self in

@@ -31,5 +31,5 @@ returns g c =
     let m = g.S.ReadStore.means c.args.self.now.store in
     record {
       answer = opens m c.none.result.bits c.none.ensures c.in-default.ensures c.args.self.now.filling;
-      after = all_cleared g.Block.BlockKind.group m (g.S.ReadStore.means c.clear.new.store) c.args.self.now.filling c.clear.ensures.prime c.clear.ensures.cleared;
+      after = all_cleared g.S.Block.BlockKind.group m (g.S.ReadStore.means c.clear.new.store) c.args.self.now.filling c.clear.ensures.prime c.clear.ensures.cleared;
     }

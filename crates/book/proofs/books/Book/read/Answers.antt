@@ -12,7 +12,7 @@ returns g c =
           c.size.ensures c.marks-also.ensures c.recover-beside.result c.recover-beside.ensures.answer;
       block =
           read_block st (length c.args.work.now) c.args.a c.args.b c.in-ok-may-touch.ensures c.size.result.number c.marks-also.result.bits
-          c.size.ensures c.marks-also.ensures c.recover-beside.result g.Block.BlockKind.group c.recover-beside.new.into c.recover-beside.ensures.block;
+          c.size.ensures c.marks-also.ensures c.recover-beside.result g.S.Block.BlockKind.group c.recover-beside.new.into c.recover-beside.ensures.block;
       into = c.recover-beside.ensures.into;
       work = c.recover-beside.ensures.work;
     }

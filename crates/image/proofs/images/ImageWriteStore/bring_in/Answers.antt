@@ -5,23 +5,22 @@ use Rattle.store.proofs.Afters.{after_map, after_both}
 use Rattle.image.proofs.ImageWrites.{bring_sound, image_brought}
 use Rattle.image.proofs.images.ImageWriteStore.bring_in.Goals as goal
 
-pub invariant-of-self : goal.invariant-of-self
-invariant-of-self c =
+pub invariant_of-self : goal.invariant_of-self
+invariant_of-self c =
     let bs : List ℕ = c.args.self.now.lent.bytes.now in
-    let bs' : List ℕ = c.bring-in.new.self.bytes.now in
-    let sound = c.args.self.now.sound in (
-      after_both c.bring-in.result (BroughtIn bs c.args.s bs') (bs' ≡ bs) (is_ok (image_check bs') ≡ true) c.bring-in.ensures.1
-          (bring_sound bs bs' sound c.args.s) (λ e. ap (λ x. is_ok (image_check x)) e ∙ sound),
-      tt,
-    )
+    let bs' : List ℕ = c.bring_in.new.self.bytes.now in
+    let sound = c.args.self.now.sound in
+    record { sound =
+      after_both c.bring_in.result (BroughtIn bs c.args.s bs') (bs' ≡ bs) (is_ok (image_check bs') ≡ true) c.bring_in.ensures.1
+          (bring_sound bs bs' sound c.args.s) (λ e. ap (λ x. is_ok (image_check x)) e ∙ sound) }
 
 pub returns : goal.returns
 returns c =
     let bs : List ℕ = c.args.self.now.lent.bytes.now in
-    let bs' : List ℕ = c.bring-in.new.self.bytes.now in
+    let bs' : List ℕ = c.bring_in.new.self.bytes.now in
     record {
-      answer = c.bring-in.ensures.0;
-      after = after_map c.bring-in.result (BroughtIn bs c.args.s bs') (Remarked (image_meaning bs) c.args.s false (image_meaning bs')) (bs' ≡ bs) (image_meaning bs' ≡ image_meaning bs)
-          (image_brought bs bs' c.args.s) (ap image_meaning) c.bring-in.ensures.1;
-      bytes = c.bring-in.ensures;
+      answer = c.bring_in.ensures.0;
+      after = after_map c.bring_in.result (BroughtIn bs c.args.s bs') (Remarked (image_meaning bs) c.args.s false (image_meaning bs')) (bs' ≡ bs) (image_meaning bs' ≡ image_meaning bs)
+          (image_brought bs bs' c.args.s) (ap image_meaning) c.bring_in.ensures.1;
+      bytes = c.bring_in.ensures;
     }

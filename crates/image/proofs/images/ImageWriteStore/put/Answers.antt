@@ -5,15 +5,14 @@ use Rattle.store.proofs.Afters.{after_map, after_both}
 use Rattle.image.proofs.ImageWrites.{put_sound, image_written}
 use Rattle.image.proofs.images.ImageWriteStore.put.Goals as goal
 
-pub invariant-of-self : goal.invariant-of-self
-invariant-of-self c =
+pub invariant_of-self : goal.invariant_of-self
+invariant_of-self c =
     let bs : List ℕ = c.args.self.now.lent.bytes.now in
     let bs' : List ℕ = c.put.new.self.bytes.now in
-    let sound = c.args.self.now.sound in (
+    let sound = c.args.self.now.sound in
+    record { sound =
       after_both c.put.result (Overwritten bs (block_offset c.args.a c.args.b) c.args.x.bytes bs') (bs' ≡ bs) (is_ok (image_check bs') ≡ true) c.put.ensures.1
-          (put_sound bs bs' sound c.args.a c.args.b c.args.x) (λ e. ap (λ x. is_ok (image_check x)) e ∙ sound),
-      tt,
-    )
+          (put_sound bs bs' sound c.args.a c.args.b c.args.x) (λ e. ap (λ x. is_ok (image_check x)) e ∙ sound) }
 
 pub returns : goal.returns
 returns c =

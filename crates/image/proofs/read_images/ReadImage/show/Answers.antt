@@ -6,9 +6,9 @@ use Rattle.image.specs.Images.{image_size}
 use Rattle.image.proofs.ImageBytes.{checked}
 use Rattle.image.proofs.read_images.ReadImage.show.Goals as goal
 
-pub part-in-requires : goal.part-in-requires
-part-in-requires c =
+pub part_in-requires : goal.part_in-requires
+part_in-requires c =
     let bs = c.args.self.now.bytes.now in
     let n : ℕ = image_size bs in
-    let p : pair_place c.args.a c.args.b < pairs n = place_below n c.args.a c.args.b (omega (arith, c.size-in.ensures)) (omega (arith, c.size-in.ensures)) in
+    let p : pair_place c.args.a c.args.b < pairs n = place_below n c.args.a c.args.b (omega (arith, c.size_in.ensures)) (omega (arith, c.size_in.ensures)) in
     omega (arith, c.place.ensures, (checked bs c.args.self.now.sound).long)
