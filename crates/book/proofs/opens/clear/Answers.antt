@@ -7,8 +7,8 @@ use Rattle.book.proofs.opens.clear.Goals as goal
 pub loop-a-init : goal.loop-a-init
 loop-a-init g c = rows_none g.S.Block.BlockKind.group (g.S.ReadStore.means c.args.store.now)
 
-pub clear-row-requires : goal.clear-row-requires
-clear-row-requires g c =
+pub clear_row-requires : goal.clear_row-requires
+clear_row-requires g c =
     let m = g.S.ReadStore.means c.args.store.now in
     let i = c.loop-a.invariant in
     record {
@@ -19,8 +19,8 @@ clear-row-requires g c =
 
 pub loop-a-preserved : goal.loop-a-preserved
 loop-a-preserved g c =
-    rows_more g.S.Block.BlockKind.group (g.S.ReadStore.means c.args.store.now) (g.S.ReadStore.means c.loop-a.store) (g.S.ReadStore.means c.clear-row.new.store) c.loop-a.a
-    (omega (arith, c.size.ensures, c.number-a-end.ensures.same)) c.loop-a.invariant c.clear-row.ensures
+    rows_more g.S.Block.BlockKind.group (g.S.ReadStore.means c.args.store.now) (g.S.ReadStore.means c.loop-a.store) (g.S.ReadStore.means c.clear_row.new.store) c.loop-a.a
+    (omega (arith, c.size.ensures, c.number-a-end.ensures.same)) c.loop-a.invariant c.clear_row.ensures
 
 pub returns : goal.returns
 returns g c =

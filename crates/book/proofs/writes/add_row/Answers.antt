@@ -9,7 +9,7 @@ loop-k-preserved g c =
     let G = g.S.Block.BlockKind.group in
     let m = g.S.ReadStore.means c.args.store.now in
     let m₁ = g.S.ReadStore.means c.loop-k.store in
-    let m₂ = g.S.ReadStore.means c.add-to.new.store in
+    let m₂ = g.S.ReadStore.means c.add_to.new.store in
     let row = c.args.row.now in
     let start = c.args.start in
     let s = c.args.c in
@@ -19,4 +19,4 @@ loop-k-preserved g c =
     get_or_read row (start + c.from.result) x (omega arith) c.index-row-start.is G.none ∙ ap (λ k. get_or row (start + k) G.none) c.from.ensures in
     added_same G m m₂ (λ u v. G.sum (row_part G s k row start u v) (spot G.none x s k u v)) (row_part G s (k + 1) row start)
     (λ u v _ l. row_more G s row start k x (omega arith) e u v l)
-    (added_more G m m₁ m₂ (row_part G s k row start) (spot G.none x s k) c.loop-k.invariant c.add-to.ensures)
+    (added_more G m m₁ m₂ (row_part G s k row start) (spot G.none x s k) c.loop-k.invariant c.add_to.ensures)

@@ -12,6 +12,6 @@ returns g c =
     let m = g.S.ReadStore.means b.store in
     let st = state m b.filling in
     let bits = c.marks.result.bits in
-    audited_cong g.S.Block.BlockKind.group m.size (absent_of m bits) (absent st) m.block c.audit-beside.result
+    audited_cong g.S.Block.BlockKind.group m.size (absent_of m bits) (absent st) m.block c.audit_beside.result
     (first_cong (absent st) (absent_of m bits) m.size (λ s l. sym (absent_beside m b.filling c.size.result.number bits c.size.ensures c.marks.ensures s l)))
-    c.audit-beside.ensures
+    c.audit_beside.ensures

@@ -20,8 +20,8 @@ count-count-requires g c =
 
 pub returns-then-count-gt2 : goal.returns-then-count-gt2
 returns-then-count-gt2 g c =
-    fit_many (state (g.S.ReadStore.means c.args.self.now.store) c.args.self.now.filling) c.args.s (let h = c.in-Ok-false.ensures in cc) c.in-default.is c.count-count.result c.count-count.ensures c.if-count-gt2.true
+    fit_many (state (g.S.ReadStore.means c.args.self.now.store) c.args.self.now.filling) c.args.s (let h = c.in-Ok-false.ensures in cc) c.in_default.is c.count-count.result c.count-count.ensures c.if-count-gt2.true
 
 pub returns : goal.returns
 returns g c =
-    fit_few (state (g.S.ReadStore.means c.args.self.now.store) c.args.self.now.filling) c.args.s (let h = c.in-Ok-false.ensures in cc) c.in-default.is c.count-count.result c.count-count.ensures c.if-count-gt2.false
+    fit_few (state (g.S.ReadStore.means c.args.self.now.store) c.args.self.now.filling) c.args.s (let h = c.in-Ok-false.ensures in cc) c.in_default.is c.count-count.result c.count-count.ensures c.if-count-gt2.false

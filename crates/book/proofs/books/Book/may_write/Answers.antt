@@ -8,10 +8,10 @@ count-count-requires g c =
 
 pub returns-then-count-gt2 : goal.returns-then-count-gt2
 returns-then-count-gt2 g c =
-    write_many (state (g.S.ReadStore.means c.args.self.now.store) c.args.self.now.filling) c.args.len c.args.a c.args.b c.in-ok-may-touch.ensures
+    write_many (state (g.S.ReadStore.means c.args.self.now.store) c.args.self.now.filling) c.args.len c.args.a c.args.b c.in_ok-may_touch.ensures
     c.count-count.result c.count-count.ensures c.if-count-gt2.true
 
 pub returns : goal.returns
 returns g c =
-    write_few (state (g.S.ReadStore.means c.args.self.now.store) c.args.self.now.filling) c.args.len c.args.a c.args.b c.in-ok-may-touch.ensures
+    write_few (state (g.S.ReadStore.means c.args.self.now.store) c.args.self.now.filling) c.args.len c.args.a c.args.b c.in_ok-may_touch.ensures
     c.count-count.result c.count-count.ensures c.if-count-gt2.false

@@ -24,12 +24,12 @@ module _ {B : Type 0} (m : Meaning B) (bits : ℕ) (h : (s : ℕ) → marked bit
   opens f = sym (ap out_at_open none_out)
 
 pub clear-requires : goal.clear-requires
-clear-requires g c = all_in (g.S.ReadStore.means c.args.self.now.store) c.none.result.bits c.none.ensures c.in-default.ensures
+clear-requires g c = all_in (g.S.ReadStore.means c.args.self.now.store) c.none.result.bits c.none.ensures c.in_default.ensures
 
 pub returns : goal.returns
 returns g c =
     let m = g.S.ReadStore.means c.args.self.now.store in
     record {
-      answer = opens m c.none.result.bits c.none.ensures c.in-default.ensures c.args.self.now.filling;
+      answer = opens m c.none.result.bits c.none.ensures c.in_default.ensures c.args.self.now.filling;
       after = all_cleared g.S.Block.BlockKind.group m (g.S.ReadStore.means c.clear.new.store) c.args.self.now.filling c.clear.ensures.prime c.clear.ensures.cleared;
     }
