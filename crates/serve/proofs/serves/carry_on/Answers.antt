@@ -17,7 +17,7 @@ loop-i-preserved g c =
     let G = g.S.Block.BlockKind.group in
     let b = c.args.book.now in
     let b₁ = c.loop-i.book in
-    let b₂ = c.make-call-answer.new.book in
+    let b₂ = c.make_call-answer.new.book in
     let m = g.S.ReadStore.means in
     let st = state (m b.store) b.filling in
     let st₁ = state (m b₁.store) b₁.filling in
@@ -25,10 +25,10 @@ loop-i-preserved g c =
     let d = c.index-turns-i-in-loop-i.result in
     let i = c.loop-i.i in
     let l : i < length c.loop-i.turns = omega (arith, c.loop-i.auto.turns) in
-    let y : Turn g.row.S-Block.Denot = record { call = (get_or c.loop-i.turns i d).call; answer = c.make-call-answer.result } in
+    let y : Turn g.row.S-Block.Denot = record { call = (get_or c.loop-i.turns i d).call; answer = c.make_call-answer.result } in
     let same : (get_or c.loop-i.turns i c.index-turns-i.result).call ≡ y.call = ap (λ x. x.call) (get_or_default c.loop-i.turns i c.index-turns-i.result d l) in
     let made : Made G (length c.args.work.now) st₁ y.call y.answer st₂ =
-    subst₂ (λ k call. Made G k st₁ call y.answer st₂) c.loop-i.auto.work same c.make-call-answer.ensures in (
+    subst₂ (λ k call. Made G k st₁ call y.answer st₂) c.loop-i.auto.work same c.make_call-answer.ensures in (
       calls_stay c.loop-i.turns i y d l refl ∙ c.loop-i.invariant.0,
       subst (λ xs. CarriesOn G (length c.args.work.now) st xs st₂) (sym (take_more_set c.loop-i.turns i y l))
           (carry_more G (length c.args.work.now) st st₁ st₂ (take i c.loop-i.turns) y c.loop-i.invariant.1 made),

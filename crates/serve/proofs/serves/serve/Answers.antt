@@ -23,18 +23,18 @@ returns g c =
     let G = g.S.Block.BlockKind.group in
     let b = c.args.book.now in
     let b₁ = c.open.new.self in
-    let b₂ = c.carry-on.new.book in
+    let b₂ = c.carry_on.new.book in
     let m = g.S.ReadStore.means in
     let st = state (m b.store) b.filling in
     let st₁ = state (m b₁.store) b₁.filling in
     let st₂ = state (m b₂.store) b₂.filling in
-    let h = c.in-ok-open.ensures in
+    let h = c.in_ok-open.ensures in
     let o : Opened G st st₁ = h.after in
     let M : Matches G (at_start G) st₁ = keep_open G st st₁ (all_in st (ap is_ok (sym h.answer))) o in
-    let p = c.carry-on.ensures.promise (at_start G) M in
+    let p = c.carry_on.ensures.promise (at_start G) M in
     record {
       answer = h.answer;
-      calls = c.carry-on.ensures.calls;
-      promise = (m b₁.store, (o.size, p.0, subst (λ n. Matches G (tally_after n (at_start G) c.carry-on.new.turns) st₂) o.size p.1));
-      told = λ _. subst (λ n. ToldAll n (length c.args.work.now) (at_start G) c.carry-on.new.turns) o.size (c.carry-on.ensures.told (at_start G) M);
+      calls = c.carry_on.ensures.calls;
+      promise = (m b₁.store, (o.size, p.0, subst (λ n. Matches G (tally_after n (at_start G) c.carry_on.new.turns) st₂) o.size p.1));
+      told = λ _. subst (λ n. ToldAll n (length c.args.work.now) (at_start G) c.carry_on.new.turns) o.size (c.carry_on.ensures.told (at_start G) M);
     }
