@@ -22,7 +22,7 @@ fn audit_line(heap: Global, answer: Result<Verdict, Fault>) -> Result<String, Al
 
 // Is station s out?
 fn is_out<S: ReadStore>(store: &S, s: u8) -> bool
-    ensures { result ≡ (nat_lt s (means store.now).size && (means store.now).out s) }
+    ensures { result ≡ (nat_lt s (S.means store.now).size && (S.means store.now).out s) }
 {
     matches!(store.is_in(s), Ok(false))
 }
@@ -40,7 +40,7 @@ fn append_station(heap: Global, text: &mut String, s: u8, wanted: bool) -> Resul
 
 // The numbers of the stations that are out, each after a space.
 fn out_stations<S: ReadStore>(heap: Global, store: &S) -> Result<String, AllocError>
-    ensures { IfOk result (λ t. string_bytes t ≡ listed (means store.now).out (means store.now).size) }
+    ensures { IfOk result (λ t. string_bytes t ≡ listed (S.means store.now).out (S.means store.now).size) }
 {
     let mut text = String::new(heap);
     for s in 0..store.size().number() {
@@ -51,7 +51,7 @@ fn out_stations<S: ReadStore>(heap: Global, store: &S) -> Result<String, AllocEr
 
 // The line of the stations that are out, without its end.
 fn out_line<S: ReadStore>(heap: Global, store: &S) -> Result<String, AllocError>
-    ensures { IfOk result (λ t. string_bytes t ≡ out_text (means store.now).out (means store.now).size) }
+    ensures { IfOk result (λ t. string_bytes t ≡ out_text (S.means store.now).out (S.means store.now).size) }
 {
     let stations = out_stations(heap, store)?;
     if stations.is_empty() {
@@ -63,7 +63,7 @@ fn out_line<S: ReadStore>(heap: Global, store: &S) -> Result<String, AllocError>
 
 // The report on a store: its size, the stations that are out, and what the audit answers, a line each.
 pub fn report<S: ReadStore>(heap: Global, store: &S) -> Result<String, AllocError>
-    ensures { IfOk result (λ t. Reported S.Block.group (means store.now) (string_bytes t)) }
+    ensures { IfOk result (λ t. Reported S.Block.group (S.means store.now) (string_bytes t)) }
 {
     let n = store.size().number();
     let out = out_line(heap, store)?;

@@ -19,11 +19,11 @@ returns-then-n-lt10 t c =
       into = c.append.ensures.into ∙ ap (laid_at c.args.into.now c.args.at) (sym d);
     }
 
-pub append-number-end-requires : goal.append-number-end-requires
-append-number-end-requires t c = (omega arith, omega (arith, step_length c.args.n (omega arith) (omega arith)))
+pub append_number-end-requires : goal.append_number-end-requires
+append_number-end-requires t c = (omega arith, omega (arith, step_length c.args.n (omega arith) (omega arith)))
 
 pub append-requires-2 : goal.append-requires-2
-append-requires-2 t c = omega (arith, c.append-number-end.ensures.end, step_length c.args.n (omega arith) (omega arith))
+append-requires-2 t c = omega (arith, c.append_number-end.ensures.end, step_length c.args.n (omega arith) (omega arith))
 
 pub returns : goal.returns
 returns t c =
@@ -33,7 +33,7 @@ returns t c =
     let front = decimal (n / 10) in
     let d = decimal_step n c.if-n-lt10.false (omega arith) in
     let room : at + length front ≤ length old = omega (arith, step_length n (omega arith) (omega arith)) in
-    let q = laid_then old c.append-number-end.new.into c.append-2.new.into at c.append-number-end.result c.append-2.result front ((48 + n % 10) ∷ []) room (c.append-number-end.ensures.end, c.append-number-end.ensures.into) (c.append-2.ensures.end, c.append-2.ensures.into) in
+    let q = laid_then old c.append_number-end.new.into c.append-2.new.into at c.append_number-end.result c.append-2.result front ((48 + n % 10) ∷ []) room (c.append_number-end.ensures.end, c.append_number-end.ensures.into) (c.append-2.ensures.end, c.append-2.ensures.into) in
     record {
       end = q.0 ∙ ap (λ xs. at + length xs) (sym d);
       into = q.1 ∙ ap (laid_at old at) (sym d);

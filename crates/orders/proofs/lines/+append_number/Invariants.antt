@@ -1,4 +1,4 @@
 use Rattle.orders.proofs.lines.+append_number.Given as goal
 
-abbrev pub decreases-append-number : goal.decreases-append-number
-decreases-append-number l = l.n
+abbrev pub decreases-append_number : goal.decreases-append_number
+decreases-append_number l = l.n

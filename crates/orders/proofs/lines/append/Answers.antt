@@ -9,5 +9,5 @@ returns c =
     let k : c.args.at + length text - c.args.at ≡ length text = omega arith in
     record {
       end = refl;
-      into = ap₂ (λ n xs. put_mid c.args.at n c.args.into.now xs) k c.copy-from-slice.ensures.after ∙ laid_put c.args.into.now c.args.at text;
+      into = ap₂ (λ n xs. put_mid c.args.at n c.args.into.now xs) k c.copy_from_slice.ensures.after ∙ laid_put c.args.into.now c.args.at text;
     }

@@ -14,11 +14,11 @@ loop-byte-preserved c =
     let bs = c.args.bytes.now in
     let i : ℕ = c.loop-byte.byte-index in
     let front = hex_text (take i bs) in
-    let two = c.hex-digit.result ∷ c.hex-digit-in-loop-byte.result ∷ [] in
+    let two = c.hex_digit.result ∷ c.hex_digit-in-loop-byte.result ∷ [] in
     let lt : i < length bs = omega arith in
     let long : length front ≡ 2 * i = length_hex (take i bs) ∙ ap (λ k. 2 * k) (length-take-le i bs (omega arith)) in
     let q = laid_then old c.loop-byte.into c.append-end.new.into at c.loop-byte.end c.append-end.result front two (omega arith) (omega (arith, c.loop-byte.invariant.0), c.loop-byte.invariant.1) (c.append-end.ensures.end, c.append-end.ensures.into) in
-    let e : front ++ two ≡ hex_text (take (i + 1) bs) = ap₂ (λ a b. front ++ (a ∷ b ∷ [])) c.hex-digit.ensures c.hex-digit-in-loop-byte.ensures ∙ sym (hex_push (take i bs) (get_or bs i 0)) ∙ ap hex_text (sym (take_more bs i 0 lt)) in
+    let e : front ++ two ≡ hex_text (take (i + 1) bs) = ap₂ (λ a b. front ++ (a ∷ b ∷ [])) c.hex_digit.ensures c.hex_digit-in-loop-byte.ensures ∙ sym (hex_push (take i bs) (get_or bs i 0)) ∙ ap hex_text (sym (take_more bs i 0 lt)) in
     (omega (arith, c.loop-byte.invariant.0, c.append-end.ensures.end), q.1 ∙ ap (laid_at old at) e)
 
 pub returns : goal.returns

@@ -15,9 +15,9 @@ returns c =
     let old = c.args.into.now in
     let r = c.args.reply.now in
     let text = reply_text r in
-    let p : Laid old 0 text c.lay-reply-end.result c.lay-reply-end.new.into = (c.lay-reply-end.ensures.end ∙ sym (zero-add (length text)), c.lay-reply-end.ensures.into) in
-    let room : 0 + length text ≤ length old = omega (arith, c.lay-reply-end.ensures.end, c.lay-reply-end.ensures.short) in
-    let q = laid_then old c.lay-reply-end.new.into c.append.new.into 0 c.lay-reply-end.result c.append.result text (10 ∷ []) room p (c.append.ensures.end, c.append.ensures.into) in
+    let p : Laid old 0 text c.lay_reply-end.result c.lay_reply-end.new.into = (c.lay_reply-end.ensures.end ∙ sym (zero-add (length text)), c.lay_reply-end.ensures.into) in
+    let room : 0 + length text ≤ length old = omega (arith, c.lay_reply-end.ensures.end, c.lay_reply-end.ensures.short) in
+    let q = laid_then old c.lay_reply-end.new.into c.append.new.into 0 c.lay_reply-end.result c.append.result text (10 ∷ []) room p (c.append.ensures.end, c.append.ensures.into) in
     record {
       answer = laid_answer (length old) c.append.result r (omega arith) (q.0 ∙ zero-add (length (line r)));
       into = q.1 ∙ ap (λ k. line r ++ drop k old) (zero-add (length (line r)));

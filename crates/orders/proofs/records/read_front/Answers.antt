@@ -40,7 +40,7 @@ answered bs at len r e t l v z o =
 pub returns-then-rest-len : goal.returns-then-rest-len
 returns-then-rest-len c =
     let bs = c.args.left.now in
-    let e : c.from-len.result ≡ record_length bs = c.from-len.ensures ∙ c.from-be-bytes.ensures in
+    let e : c.from-len.result ≡ record_length bs = c.from-len.ensures ∙ c.from_be_bytes.ensures in
     let t : 3 ≤ length bs = omega (arith, ltb-false) in
     let l : length bs < 3 + record_length bs = omega (arith, ap length (take_rest bs 3), length-drop 3 bs, c.if-rest-len.true) in
     sym (part_there bs c.args.at t l c.if-version-ne1.false (λ y. c.if-len-eq0.false (e ∙ y)))
@@ -49,10 +49,10 @@ pub returns-in-Ok : goal.returns-in-Ok
 returns-in-Ok c =
     let bs = c.args.left.now in
     let t : 3 ≤ length bs = omega (arith, ltb-false) in
-    answered bs c.args.at c.from-len.result (Ok (asked c.in-Ok.order)) (c.from-len.ensures ∙ c.from-be-bytes.ensures) t (omega arith) c.if-version-ne1.false c.if-len-eq0.false c.in-Ok.ensures
+    answered bs c.args.at c.from-len.result (Ok (asked c.in-Ok.order)) (c.from-len.ensures ∙ c.from_be_bytes.ensures) t (omega arith) c.if-version-ne1.false c.if-len-eq0.false c.in-Ok.ensures
 
 pub returns-in-Err : goal.returns-in-Err
 returns-in-Err c =
     let bs = c.args.left.now in
     let t : 3 ≤ length bs = omega (arith, ltb-false) in
-    answered bs c.args.at c.from-len.result (Err c.in-Err.fault) (c.from-len.ensures ∙ c.from-be-bytes.ensures) t (omega arith) c.if-version-ne1.false c.if-len-eq0.false c.in-Err.ensures
+    answered bs c.args.at c.from-len.result (Err c.in-Err.fault) (c.from-len.ensures ∙ c.from_be_bytes.ensures) t (omega arith) c.if-version-ne1.false c.if-len-eq0.false c.in-Err.ensures

@@ -15,26 +15,26 @@ returns-in-Err c =
     (λ t h. said_refused m c.args.a c.args.b c.requires.first c.requires.second c.requires.long c.in-Err.ensures.answer h)
     c.format.ensures.ok
 
-pub returns-then-either-out : goal.returns-then-either-out
-returns-then-either-out c =
+pub returns-then-either_out : goal.returns-then-either_out
+returns-then-either_out c =
     let m = image_meaning c.args.image.now.bytes.now in
     let x = c.recover.new.into in
-    let d : string_bytes c.in-ok-digits.digits ≡ hex x.bytes = c.in-ok-digits.ensures ∙ ap hex c.as-bytes.ensures in
-    IfOk-weaker c.format-then-either-out.result _ _
+    let d : string_bytes c.in_ok-digits.digits ≡ hex x.bytes = c.in_ok-digits.ensures ∙ ap hex c.as_bytes.ensures in
+    IfOk-weaker c.format-then-either_out.result _ _
     (λ t h.
     said_rebuilt m c.args.a c.args.b c.requires.first c.requires.second c.requires.long x
-    c.in-default.ensures.answer (sym c.either-out.ensures ∙ c.if-either-out.true) (c.in-default.ensures.block refl)
+    c.in_default.ensures.answer (sym c.either_out.ensures ∙ c.if-either_out.true) (c.in_default.ensures.block refl)
     (h ∙ ap (λ xs. codes "rebuilt " ++ xs) d))
-    c.format-then-either-out.ensures.ok
+    c.format-then-either_out.ensures.ok
 
 pub returns : goal.returns
 returns c =
     let m = image_meaning c.args.image.now.bytes.now in
     let x = c.recover.new.into in
-    let d : string_bytes c.in-ok-digits.digits ≡ hex x.bytes = c.in-ok-digits.ensures ∙ ap hex c.as-bytes.ensures in
-    IfOk-weaker c.format-else-either-out.result _ _
+    let d : string_bytes c.in_ok-digits.digits ≡ hex x.bytes = c.in_ok-digits.ensures ∙ ap hex c.as_bytes.ensures in
+    IfOk-weaker c.format-else-either_out.result _ _
     (λ t h.
     said_stored m c.args.a c.args.b c.requires.first c.requires.second c.requires.long x
-    (sym c.either-out.ensures ∙ c.if-either-out.false) (c.in-default.ensures.block refl)
+    (sym c.either_out.ensures ∙ c.if-either_out.false) (c.in_default.ensures.block refl)
     (h ∙ ap (λ xs. codes "stored " ++ xs) d))
-    c.format-else-either-out.ensures.ok
+    c.format-else-either_out.ensures.ok

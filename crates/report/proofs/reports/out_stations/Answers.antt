@@ -9,14 +9,14 @@ loop-s-preserved g c =
     let m = g.S.ReadStore.means c.args.store.now in
     let s : ℕ = c.loop-s.s in
     let l : s < m.size = omega (arith, c.size.ensures) in
-    let o : c.is-out.result ≡ m.out s = c.is-out.ensures ∙ ap (λ t. t && m.out s) (lt-ltb s m.size l) in
-    c.in-ok-append-station.ensures
-    ∙ ap (λ xs. xs ++ cond c.is-out.result (32 ∷ decimal s) []) c.loop-s.invariant
+    let o : c.is_out.result ≡ m.out s = c.is_out.ensures ∙ ap (λ t. t && m.out s) (lt-ltb s m.size l) in
+    c.in_ok-append_station.ensures
+    ∙ ap (λ xs. xs ++ cond c.is_out.result (32 ∷ decimal s) []) c.loop-s.invariant
     ∙ ap (λ t. listed m.out s ++ cond t (32 ∷ decimal s) []) o
     ∙ ap (listed m.out) (sym (add-one s))
 
-pub returns-in-err-append-station : goal.returns-in-err-append-station
-returns-in-err-append-station g c = IfOk-from_err c.from-residual.result _ c.from-residual.ensures.0
+pub returns-in_err-append_station : goal.returns-in_err-append_station
+returns-in_err-append_station g c = IfOk-from_err c.from_residual.result _ c.from_residual.ensures.0
 
 pub returns : goal.returns
 returns g c =
