@@ -33,10 +33,10 @@ module _ {B : Type 0} (G : Group B) (t : Tally B) (st : State B) (len : ℕ) (R 
   write_as a b x = told.write_as G t st R.matched len a b ∙ unshort (data_refusal n t a b (unless_many n t true))
 
   pub lose_as : (s : ℕ) → lose_answer st s ≡ outcome (refusal n t (Lose s))
-  lose_as s = told.lose-as G t st R.matched s
+  lose_as s = told.lose_as G t st R.matched s
 
   -- with no filling, a station is out if it is absent
   pub replace_as : (s : ℕ) → replace_answer st len s ≡ outcome (refusal n t (Replace s))
   replace_as s =
-      cond-false (ltb len (8 * n)) (Err (AreaTooShort len)) (fit_answer st s) full ∙ told.fit-as G t st R.matched s
+      cond-false (ltb len (8 * n)) (Err (AreaTooShort len)) (fit_answer st s) full ∙ told.fit_as G t st R.matched s
       ∙ ap (λ f. outcome (cond (leb n s) (Some (NoSuchStation s)) (cond (cond (being_filled f s) false (t.absent s)) (fit_refusal n t f) (Some (NotOut s))))) (R.matched.filling ∙ R.idle)

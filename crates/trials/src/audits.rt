@@ -35,7 +35,7 @@ fn one_bit_flipped(rt: HostRuntime) -> Result<(), Fail> {
         for smaller in 0..=larger {
             let mut bytes = five(rt.alloc(), 0)?;
             flip(&mut bytes, p)?;
-            audits(&rt, bytes.as_slice(), Ok(first_rule(larger, smaller))).note(p)?;
+            audits(&rt, bytes.as_slice(), Ok(first_rule(larger, smaller)))?;
             p = p.wrapping_add(1);
         }
     }
@@ -60,7 +60,7 @@ fn stations_out(rt: HostRuntime) -> Result<(), Fail> {
             Some(s) => Err(Fault::AbsentAtAudit(s)),
             None => Ok(Verdict::Sound),
         };
-        audits(&rt, five(rt.alloc(), marks)?.as_slice(), answer).note(marks)?;
+        audits(&rt, five(rt.alloc(), marks)?.as_slice(), answer)?;
     }
     Ok(())
 }

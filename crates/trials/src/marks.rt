@@ -23,12 +23,12 @@ fn lacks_only(rt: &impl Abort, set: Marks, s: u8) -> Result<(), Fail> {
 fn set_and_cleared(rt: HostRuntime) -> Result<(), Fail> {
     for s in 0..32 {
         let one = Marks::none().with(s, true);
-        has_only(&rt, one, s).note(s)?;
+        has_only(&rt, one, s)?;
         assert_eq!(rt; one.bits(), 1u32 << s);
         assert_eq!(rt; one.with(s, true).bits(), one.bits());
         assert_eq!(rt; one.with(s, false).bits(), 0);
         let rest = Marks::from_bits(u32::MAX).with(s, false);
-        lacks_only(&rt, rest, s).note(s)?;
+        lacks_only(&rt, rest, s)?;
         assert_eq!(rt; rest.with(s, true).bits(), u32::MAX);
     }
     Ok(())

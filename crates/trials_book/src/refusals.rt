@@ -96,8 +96,8 @@ fn each_refuses(
     cases: &[(Move, Slip)],
 ) -> Result<(), Fail> {
     for (i, case) in cases.iter().enumerate() {
-        refuses(rt, heap, before, case.0, case.1).note(i)?;
-        ends_alike(rt, heap, before, case.0).note(i)?;
+        refuses(rt, heap, before, case.0, case.1)?;
+        ends_alike(rt, heap, before, case.0)?;
     }
     Ok(())
 }

@@ -34,7 +34,7 @@ fn refused_open_and_audit(rt: HostRuntime) -> Result<(), Fail> {
     for s in 0..5 {
         let mut row = [true; 15];
         check_table(5, &row)?;
-        not_opened(&rt, Table::make(5, &mut row), s).note(s)?;
+        not_opened(&rt, Table::make(5, &mut row), s)?;
         assert!(rt; row == [true; 15]);
     }
     Ok(())
@@ -129,7 +129,7 @@ fn stale_tickets_come_back(rt: HostRuntime) -> Result<(), Fail> {
     for s in 0..5 {
         let mut row = [false; 15];
         check_table(5, &row)?;
-        come_back(&rt, Table::make(5, &mut row), s, &mut [true; 40]).note(s)?;
+        come_back(&rt, Table::make(5, &mut row), s, &mut [true; 40])?;
     }
     Ok(())
 }

@@ -26,7 +26,7 @@ fn open_and_audit(rt: HostRuntime) -> Result<(), Fail> {
     for s in 0..5 {
         let mut row = [true; 15];
         check_table(5, &row)?;
-        opened(&rt, Table::make(5, &mut row), s).note(s)?;
+        opened(&rt, Table::make(5, &mut row), s)?;
     }
     Ok(())
 }
@@ -168,7 +168,7 @@ fn stale_open_tickets(rt: HostRuntime) -> Result<(), Fail> {
         check_table(5, &other)?;
         let own = Table::make(5, &mut row);
         let lost = Table::make(5, &mut other);
-        stale_open(&rt, own, lost, s, &mut [true; 39], &mut [true; 40]).note(s)?;
+        stale_open(&rt, own, lost, s, &mut [true; 39], &mut [true; 40])?;
     }
     Ok(())
 }
@@ -231,7 +231,7 @@ fn stale_full_tickets(rt: HostRuntime) -> Result<(), Fail> {
         check_table(5, &other)?;
         let own = Table::make(5, &mut row);
         let begun = Table::make(5, &mut other);
-        stale_full(&rt, own, begun, s, &mut [true; 40]).note(s)?;
+        stale_full(&rt, own, begun, s, &mut [true; 40])?;
     }
     Ok(())
 }

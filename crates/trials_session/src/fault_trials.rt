@@ -81,7 +81,7 @@ fn cut_at_every_byte(rt: HostRuntime) -> Result<(), Fail> {
         assert!(rt; input.len() > 8);
         answers(&rt, rt.alloc(), &input[0..5], b"sound\n")?;
         for end in 6..input.len() {
-            answers(&rt, rt.alloc(), &input[0..end], b"sound\nno 16 r 5\n").note(end)?;
+            answers(&rt, rt.alloc(), &input[0..end], b"sound\nno 16 r 5\n")?;
         }
     }
     Ok(())

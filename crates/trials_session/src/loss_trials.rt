@@ -152,7 +152,7 @@ fn every_size(rt: HostRuntime) -> Result<(), Fail> {
             (Record::Audit, Line::Sound),
             (Record::Read(data, 0), Line::Shows(0xc3)),
         ];
-        plays(&rt, rt.alloc(), n, &script).note(n)?;
+        plays(&rt, rt.alloc(), n, &script)?;
     }
     Ok(())
 }

@@ -24,7 +24,7 @@ fn calls_refused(rt: HostRuntime) -> Result<(), Fail> {
     for (marks, call, slip) in REFUSALS {
         let before = image_of(&sample_row(), marks)?;
         let mut bytes = before;
-        image_refuses(&rt, &mut bytes, marks, call, slip).note(i)?;
+        image_refuses(&rt, &mut bytes, marks, call, slip)?;
         assert!(rt; bytes == before, "{}", i);
         i = i.wrapping_add(1);
     }
@@ -124,7 +124,7 @@ fn take_out_and_bring_in(rt: HostRuntime) -> Result<(), Fail> {
     for s in 0..5u8 {
         for marks in 0..32u8 {
             if (marks >> s) & 1 == 0 {
-                out_and_in(&rt, marks, s).note(s)?;
+                out_and_in(&rt, marks, s)?;
             }
         }
     }

@@ -53,7 +53,7 @@ fn two_taken_out(rt: HostRuntime) -> Result<(), Fail> {
     for i in 0..5 {
         for j in 0..5 {
             if i != j {
-                loses(&rt, &mut image_of(&row, 0)?, i, j, &row).note(i)?;
+                loses(&rt, &mut image_of(&row, 0)?, i, j, &row)?;
             }
         }
     }

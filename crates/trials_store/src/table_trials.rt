@@ -25,7 +25,7 @@ fn rows_refused(rt: HostRuntime) -> Result<(), Fail> {
     ];
     for (n, length, slip) in cases {
         assert!(rt; length <= 20);
-        says(&rt, check_table(n, &row[0..length]), slip).note(n)?;
+        says(&rt, check_table(n, &row[0..length]), slip)?;
     }
     Ok(())
 }
@@ -76,8 +76,8 @@ fn calls_refused(rt: HostRuntime) -> Result<(), Fail> {
     let mut i = 0usize;
     for (marks, call, slip) in REFUSALS {
         let mut row = sample_row();
-        table_refuses(&rt, &mut row, marks, call, slip).note(i)?;
-        same_rows(&rt, &row, &sample_row()).note(i)?;
+        table_refuses(&rt, &mut row, marks, call, slip)?;
+        same_rows(&rt, &row, &sample_row())?;
         i = i.wrapping_add(1);
     }
     assert_eq!(rt; i, 30);

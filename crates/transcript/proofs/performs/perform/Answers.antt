@@ -8,7 +8,7 @@ pub returns-in-Read : goal.returns-in-Read
 returns-in-Read g c t R =
     let b = c.args.book.now in
     let st = state (g.S.ReadStore.means b.store) b.filling in
-    subst (λ q. Performed g.S.Block.BlockKind.group t st (length c.args.work.now) q c.read-pair.result st) (sym c.in-Read.is) (c.read-pair.ensures t R)
+    subst (λ q. Performed g.S.Block.BlockKind.group t st (length c.args.work.now) q c.read_pair.result st) (sym c.in-Read.is) (c.read_pair.ensures t R)
 
 pub returns-in-Write : goal.returns-in-Write
 returns-in-Write g c t R =
@@ -49,4 +49,4 @@ returns-in-Audit g c t R =
     let b = c.args.book.now in
     let st = state (g.S.ReadStore.means b.store) b.filling in
     let len = length c.args.work.now in
-    subst (λ q. Performed g.S.Block.BlockKind.group t st len q c.audit-all.result st) (sym c.in-Audit.is) (c.audit-all.ensures len t R)
+    subst (λ q. Performed g.S.Block.BlockKind.group t st len q c.audit_all.result st) (sym c.in-Audit.is) (c.audit_all.ensures len t R)

@@ -20,4 +20,4 @@ loop-i-preserved c =
 pub returns : goal.returns
 returns c =
     let bytes = c.args.bytes.now in
-    same_block c.from-bytes.result (block_at bytes 0) (c.from-bytes.ensures ∙ copied_all bytes c.loop-i.i c.loop-i.block (omega arith) c.loop-i.invariant)
+    same_block c.from_bytes.result (block_at bytes 0) (c.from_bytes.ensures ∙ copied_all bytes c.loop-i.i c.loop-i.block (omega arith) c.loop-i.invariant)

@@ -9,9 +9,9 @@ loop-at-init c = read_none c.args.input.now (vec_items c.new-steps.result) c.new
 pub loop-at-preserved : goal.loop-at-preserved
 loop-at-preserved c =
     let input = c.args.input.now in
-    let h = c.read-request-found.ensures in
-    read_more (session_requests input) input (vec_items c.loop-at.steps) (vec_items c.push.new.self) c.loop-at.at c.read-request-found.result.next _ c.loop-at-test.true
-    h.request h.next h.forward c.in-ok-push.ensures.items c.loop-at.invariant
+    let h = c.read_request-found.ensures in
+    read_more (session_requests input) input (vec_items c.loop-at.steps) (vec_items c.push.new.self) c.loop-at.at c.read_request-found.result.next _ c.loop-at-test.true
+    h.request h.next h.forward c.in_ok-push.ensures.items c.loop-at.invariant
 
 pub returns : goal.returns
 returns c = read_all (session_requests c.args.input.now) c.args.input.now (vec_items c.loop-at.steps) c.loop-at.at c.loop-at-test.false c.loop-at.invariant

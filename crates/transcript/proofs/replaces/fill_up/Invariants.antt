@@ -10,4 +10,4 @@ invariant-loop-partner g l =
     let st = state (m l.initial.book.store) l.initial.book.filling in
     let st' = state (m l.book.store) l.book.filling in
     (l.open.station ≡ s)
-    × (CanFillUp st s (length l.initial.work) → FilledTo g.S.Block.BlockKind.group st s l.-partner st' × (0 < l.-partner → l.-partner < size_of st))
+    × (CanFillUp st s (length l.initial.work) → FilledTo g.S.Block.BlockKind.group st s l._partner st' × (0 < l._partner → l._partner < size_of st))

@@ -18,13 +18,13 @@ returns c =
     let input = c.args.input.now in
     let listed : among n sizes ≡ true = c.args.size.allowed in
     let same : c.number-n.result ≡ n = c.number-n.ensures.same in
-    let row_long : length c.as-mut-slice.result.now ≡ pairs n = c.as-mut-slice.ensures.len ∙ c.in-ok-row.ensures.len ∙ c.pairs.ensures in
-    let work_long : length c.as-mut-slice-3.result.now ≡ 8 * c.from.result = c.as-mut-slice-3.ensures.len ∙ c.in-ok-work.ensures.len in
-    let room : ltb (length c.as-mut-slice.result.now) (pairs n) ≡ false = le-ltb (length c.as-mut-slice.result.now) (pairs n) (omega arith) in
-    let fine : is_ok (table_check n (length c.as-mut-slice.result.now)) ≡ true = rw (listed, room) in
-    let ok : is_ok (table_check c.number-n.result (length c.as-mut-slice.result.now)) ≡ true = ap (λ k. is_ok (table_check k (length c.as-mut-slice.result.now))) same ∙ fine in
-    let long : 8 * c.number-n.result ≤ length c.as-mut-slice-3.result.now = omega (arith, work_long, ap (λ k. 8 * k) c.from.ensures) in
-    let asks : requests_of c.as-mut-slice-2.result.now ≡ session_requests input = ap requests_of c.as-mut-slice-2.ensures.value ∙ c.in-ok-steps.ensures in
-    let said : lines (replies c.number-n.result (at_start byte_group) (requests_of c.as-mut-slice-2.result.now)) ≡ answers n input =
+    let row_long : length c.as_mut_slice.result.now ≡ pairs n = c.as_mut_slice.ensures.len ∙ c.in_ok-row.ensures.len ∙ c.pairs.ensures in
+    let work_long : length c.as_mut_slice-3.result.now ≡ 8 * c.from.result = c.as_mut_slice-3.ensures.len ∙ c.in_ok-work.ensures.len in
+    let room : ltb (length c.as_mut_slice.result.now) (pairs n) ≡ false = le-ltb (length c.as_mut_slice.result.now) (pairs n) (omega arith) in
+    let fine : is_ok (table_check n (length c.as_mut_slice.result.now)) ≡ true = rw (listed, room) in
+    let ok : is_ok (table_check c.number-n.result (length c.as_mut_slice.result.now)) ≡ true = ap (λ k. is_ok (table_check k (length c.as_mut_slice.result.now))) same ∙ fine in
+    let long : 8 * c.number-n.result ≤ length c.as_mut_slice-3.result.now = omega (arith, work_long, ap (λ k. 8 * k) c.from.ensures) in
+    let asks : requests_of c.as_mut_slice-2.result.now ≡ session_requests input = ap requests_of c.as_mut_slice-2.ensures.value ∙ c.in_ok-steps.ensures in
+    let said : lines (replies c.number-n.result (at_start byte_group) (requests_of c.as_mut_slice-2.result.now)) ≡ answers n input =
     ap₂ (λ k qs. lines (replies k (at_start byte_group) qs)) same asks ∙ sym (cond-true (among n sizes) (lines (replies n (at_start byte_group) (session_requests input))) (line (Refused (NotASize n))) listed) in
-    made_map c.tell-on-row.result (λ text h. h ∙ said) (c.tell-on-row.ensures ok long)
+    made_map c.tell_on_row.result (λ text h. h ∙ said) (c.tell_on_row.ensures ok long)

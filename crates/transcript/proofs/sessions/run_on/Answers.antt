@@ -10,8 +10,8 @@ use Rattle.transcript.specs.Replies.{replies, requests_of, replies_of}
 use Rattle.transcript.proofs.Opened.{opens, ready}
 use Rattle.transcript.proofs.sessions.run_on.Goals as goal
 
-pub returns-then-is-ok : goal.returns-then-is-ok
-returns-then-is-ok g c all long =
+pub returns-then-is_ok : goal.returns-then-is_ok
+returns-then-is_ok g c all long =
     let G = g.S.Block.BlockKind.group in
     let m = g.S.ReadStore.means in
     let b = c.make-book.result in
@@ -19,11 +19,11 @@ returns-then-is-ok g c all long =
     let st = state (m b.store) b.filling in
     let st₁ = state (m b₁.store) b₁.filling in
     let made : m b.store ≡ m c.args.store = ap m c.make-book.ensures.store in
-    let ok : is_ok c.«open».result ≡ true = sym c.is-ok.ensures.value ∙ c.if-is-ok.true in
+    let ok : is_ok c.«open».result ≡ true = sym c.is_ok.ensures.value ∙ c.if-is_ok.true in
     let o : Opened G st st₁ = did c.«open».result (Opened G st st₁) (st₁ ≡ st) ok c.«open».ensures.after in
     let long' : 8 * size_of st ≤ length c.args.work.now = omega (arith, long, ap (λ x. 8 * x.size) made) in
     let R = ready st (subst AllIn (sym made) all) G st₁ (length c.args.work.now) long' o in
-    c.perform-all.ensures.1 (at_start G) R ∙ ap (λ n. replies n (at_start G) (requests_of c.args.steps.now)) (o.size ∙ ap (λ x. x.size) made)
+    c.perform_all.ensures.1 (at_start G) R ∙ ap (λ n. replies n (at_start G) (requests_of c.args.steps.now)) (o.size ∙ ap (λ x. x.size) made)
 
 pub returns : goal.returns
 returns g c all long =
@@ -32,4 +32,4 @@ returns g c all long =
     let st = state (m b.store) b.filling in
     let made : m b.store ≡ m c.args.store = ap m c.make-book.ensures.store in
     let ok : is_ok c.«open».result ≡ true = ap is_ok c.«open».ensures.answer ∙ opens st (subst AllIn (sym made) all) in
-    absurd (both_ways c.is-ok.result c.if-is-ok.false (c.is-ok.ensures.value ∙ ok))
+    absurd (both_ways c.is_ok.result c.if-is_ok.false (c.is_ok.ensures.value ∙ ok))

@@ -22,4 +22,4 @@ returns-in-Err c =
     let h = c.in-Err.ensures in
     let some : 0 < length input = search rules in
     let q = no_size input (omega arith) some (unlisted (get_or input 0 0) h.1) in
-    made_map c.refusal-text_in-Err.result (λ text e. e ∙ ap (λ f. line (Refused f)) h.0 ∙ q) c.refusal-text_in-Err.ensures
+    made_map c.refusal_text-in-Err.result (λ text e. e ∙ ap (λ f. line (Refused f)) h.0 ∙ q) c.refusal_text-in-Err.ensures

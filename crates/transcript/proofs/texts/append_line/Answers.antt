@@ -12,15 +12,15 @@ front xs ys area len e h =
     let n : len - 0 ≡ length xs = omega arith in
     ap₂ take n h ∙ take-append-le (length xs) xs ys (omega arith) ∙ take_all (length xs) xs (omega arith)
 
-pub slice-bounds-extend-from-slice-end : goal.slice-bounds-extend-from-slice-end
-slice-bounds-extend-from-slice-end c =
+pub slice_bounds-extend_from_slice-end : goal.slice_bounds-extend_from_slice-end
+slice_bounds-extend_from_slice-end c =
     let h = c.in-Ok.ensures in
     let e : c.in-Ok.len ≡ length (line c.args.reply.now) = cc in
-    let k : c.in-Ok.len ≤ length c.lay-line.new.into = within (line c.args.reply.now) _ c.lay-line.new.into c.in-Ok.len e h.into in
+    let k : c.in-Ok.len ≤ length c.lay_line.new.into = within (line c.args.reply.now) _ c.lay_line.new.into c.in-Ok.len e h.into in
     omega arith
 
 pub returns : goal.returns
 returns c =
     let h = c.in-Ok.ensures in
     let e : c.in-Ok.len ≡ length (line c.args.reply.now) = cc in
-    c.in-ok-extend-from-slice.ensures.items ∙ ap (λ xs. vec_items c.args.text.now ++ xs) (front (line c.args.reply.now) _ c.lay-line.new.into c.in-Ok.len e h.into)
+    c.in_ok-extend_from_slice-in-Ok.ensures.items ∙ ap (λ xs. vec_items c.args.text.now ++ xs) (front (line c.args.reply.now) _ c.lay_line.new.into c.in-Ok.len e h.into)

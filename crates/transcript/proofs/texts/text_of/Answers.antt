@@ -20,8 +20,8 @@ more steps i step text text' all l e h inv =
 pub loop-step-preserved : goal.loop-step-preserved
 loop-step-preserved c =
     let steps = c.args.steps.now in
-    more steps c.loop-step.step-index c.step-item.result (vec_items c.loop-step.text) (vec_items c.append-line.new.text) (lines (replies_of steps)) c.loop-step-test.true c.step-item.is
-    c.in-ok-append-line.ensures c.loop-step.invariant
+    more steps c.loop-step.step-index c.step-item.result (vec_items c.loop-step.text) (vec_items c.append_line.new.text) (lines (replies_of steps)) c.loop-step-test.true c.step-item.is
+    (c.in_ok-append_line.ensures ∙ ap (λ r. vec_items c.loop-step.text ++ line r) c.reply_of.ensures) c.loop-step.invariant
 
 pub returns : goal.returns
 returns c =
