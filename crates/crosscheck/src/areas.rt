@@ -32,7 +32,7 @@ fn new_image(heap: Global, n: u8) -> Result<Vec<u8>, AllocError> {
 fn image_holds(bytes: &[u8], p: usize, block: &Block) -> bool {
     let at = p.saturating_mul(64).saturating_add(10);
     match bytes.get(at..at.saturating_add(64)) {
-        Some(part) => part == block.as_bytes(),
+        Some(part) => part == block.as_bytes().as_slice(),
         None => false,
     }
 }
