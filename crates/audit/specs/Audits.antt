@@ -1,5 +1,5 @@
 -- What an audit finds: the first broken rule, neighbourhoods before diagonals, or none.
-use Rattle.std.specs.Prelude.{◌≡◌, ℕ, ◌<◌, Bool, false, ◌≢◌, List, ◌++◌, Some, None, Ok, Err, codes, decimal, Result}
+use Rattle.std.specs.Prelude.{◌≡◌, ℕ, ◌<◌, Bool, ◌≢◌, List, ◌++◌, Some, None, Ok, Err, codes, decimal, Result}
 use Rattle.kinds.specs.Group.{Group}
 use Rattle.code.specs.Rules.{Blocks, neighbourhood, diagonal, Codeword}
 use Rattle.faults.specs.declared.faults.Fault.{Fault}

@@ -1,5 +1,5 @@
 -- Codewords of bits as codewords of any block kind: d where the bit is 1, and none where it is 0.
-use Rattle.std.proofs.Common.{◌≡◌, ℕ, zero, suc, ◌+◌, ◌-◌, ◌%◌, ◌<◌, ◌≤◌, Bool, true, false, cond, eqb, sym, refl, ap, ◌∙◌}
+use Rattle.std.proofs.Common.{◌≡◌, ℕ, zero, suc, ◌+◌, ◌-◌, ◌%◌, ◌≤◌, Bool, true, false, cond, eqb, sym, refl, ap, ◌∙◌}
 use Rattle.kinds.specs.Bits.{bit_group, differ}
 use Rattle.kinds.specs.Group.{Group, sum_to}
 use Rattle.code.specs.Rules.{Blocks, of, neighbourhood, diagonal, Codeword, Agree}

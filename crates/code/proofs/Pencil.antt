@@ -1,10 +1,10 @@
 -- The worked examples, by computed tests.
-use Rattle.std.proofs.Common.{◌≡◌, ℕ, suc, ◌+◌, ◌-◌, ◌%◌, ◌<◌, ◌≤◌, min, max, Bool, true, false, not, ◌&&◌, ◌||◌, eqb, leb, List, [], ◌∷◌, sym, refl, ap, ◌∙◌, arith, lit≤}
+use Rattle.std.proofs.Common.{◌≡◌, ℕ, suc, ◌+◌, ◌-◌, ◌%◌, ◌<◌, ◌≤◌, min, max, Bool, true, false, not, ◌&&◌, ◌||◌, eqb, leb, List, [], ◌∷◌, sym, refl, ◌∙◌, arith, lit≤}
 use mathlib.Core.Bool.{beq}
 use Rattle.std.proofs.lemmas.Bool.{and_parts, not-true, both_ways, le-leb}
 use Rattle.kinds.specs.Bits.{bit_group}
 use Rattle.code.specs.Examples.{listed_pair, DiagonalIs, PatternIs, Examples}
-use Rattle.code.specs.Rules.{Blocks, of, neighbourhood, diagonal, Codeword}
+use Rattle.code.specs.Rules.{Blocks, neighbourhood, diagonal, Codeword}
 use Rattle.code.specs.Sizes.{OddPrime, among, sizes}
 use Rattle.code.proofs.Primes.{each_below, below_at, listed_prime, prime_listed}
 use Rattle.code.proofs.Rebuild.{stands}

@@ -1,9 +1,9 @@
 -- The listed sizes are the odd primes up to 31, by computed tests.
-use Rattle.std.proofs.Common.{◌≡◌, ℕ, zero, suc, ◌%◌, ◌<◌, ◌≤◌, Bool, true, false, not, ◌&&◌, ◌||◌, eqb, ltb, leb, ◌≢◌, ◌⊎◌, List, [], ◌∷◌, sym, refl, subst, inl, inr, le_refl, not-suc-le-zero, arith}
+use Rattle.std.proofs.Common.{◌≡◌, ℕ, zero, suc, ◌%◌, ◌<◌, ◌≤◌, Bool, true, false, not, ◌&&◌, ◌||◌, eqb, ltb, leb, ◌≢◌, ◌⊎◌, sym, refl, subst, inl, inr, le_refl, not-suc-le-zero, arith}
 use native.Mathlib.Nat.{le_step}
-use Rattle.std.proofs.lemmas.Bool.{cases_eq, both_ways, eqb-true, ltb-true, leb-true, and_parts, and_from, or_cases, or_left, or_right, lt-ltb, eq-eqb, ne_eqb, not_from_true, not_from_false, not-true, cases_lt, cases_Bool}
+use Rattle.std.proofs.lemmas.Bool.{cases_eq, both_ways, eqb-true, ltb-true, leb-true, and_parts, and_from, or_cases, or_left, or_right, lt-ltb, ne_eqb, not_from_false, not-true, cases_lt, cases_Bool}
 use Rattle.std.proofs.lemmas.Bool.Decides.{nat_tests}
-use Rattle.code.specs.Sizes.{Prime, OddPrime, sizes, among}
+use Rattle.code.specs.Sizes.{OddPrime, sizes, among}
 
 -- what holds below n and at n holds below n + 1
 pub upto : (P : ℕ → Type 0) (n : ℕ) → ((k : ℕ) → k < n → P k) → P n → (k : ℕ) → k < suc n → P k

@@ -1,12 +1,10 @@
 -- Two lost stations can be rebuilt in exactly one way.
-use Rattle.std.proofs.Common.{◌≡◌, ℕ, zero, suc, ◌+◌, ◌-◌, ◌*◌, ◌%◌, ◌<◌, ◌≤◌, Bool, true, false, cond, not, ◌&&◌, ◌||◌, eqb, ltb, ◌≢◌, ◌⊎◌, List, [], ◌∷◌, sym, refl, ap, ◌∙◌, subst, inl, inr, le_refl, not-suc-le-zero, mod-eq_of_lt, arith}
+use Rattle.std.proofs.Common.{◌≡◌, ℕ, zero, suc, ◌+◌, ◌-◌, ◌*◌, ◌%◌, ◌<◌, ◌≤◌, Bool, true, false, cond, ◌≢◌, ◌⊎◌, sym, refl, ap, ◌∙◌, subst, inl, inr, le_refl, not-suc-le-zero, mod-eq_of_lt, arith}
 use native.Mathlib.Nat.{le_step}
-use Rattle.std.proofs.lemmas.Bool.{cases_eq, both_ways, eqb-true, ltb-true, and_parts, or_cases}
-use Rattle.std.proofs.lemmas.Bool.Decides.{nat_tests}
+use Rattle.std.proofs.lemmas.Bool.{cases_eq, both_ways}
 use Rattle.kinds.specs.Group.{Group}
 use Rattle.code.specs.Rules.{Blocks, Codeword, Agree}
 use Rattle.code.specs.Rebuilt.{absentees, Without, RebuildsPair, Rebuilds, Free, Hidden, Stands}
-use Rattle.code.specs.Sizes.{OddPrime}
 use Rattle.code.proofs.Walk.{Walk, walk}
 use Rattle.code.proofs.Rows.{ordered, neighbourhood_none, diagonal_none}
 use Rattle.code.proofs.Only.{only_one}

@@ -1,5 +1,5 @@
 -- Worked examples of sizes, places, diagonals and patterns, as one statement about the rules.
-use Rattle.std.specs.Prelude.{◌≡◌, ℕ, ◌+◌, ◌%◌, ◌<◌, ◌≤◌, Bool, true, false, ◌&&◌, ◌||◌, List, [], ◌∷◌, ◌==◌}
+use Rattle.std.specs.Prelude.{◌≡◌, ℕ, ◌+◌, ◌%◌, ◌<◌, ◌≤◌, Bool, false, ◌&&◌, ◌||◌, List, [], ◌∷◌, ◌==◌}
 use Rattle.kinds.specs.Bits.{bit_group}
 use Rattle.code.specs.Places.{pair_place}
 use Rattle.code.specs.Rules.{Blocks, Codeword}

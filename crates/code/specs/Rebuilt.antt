@@ -1,4 +1,4 @@
-use Rattle.std.specs.Prelude.{◌≡◌, ℕ, zero, suc, ◌+◌, ◌-◌, ◌*◌, ◌%◌, ◌<◌, ◌≤◌, min, max, Bool, true, false, cond, not, ◌&&◌, ◌||◌, T, ◌≢◌, List, [], ◌∷◌, ◌==◌}
+use Rattle.std.specs.Prelude.{◌≡◌, ℕ, zero, suc, ◌+◌, ◌-◌, ◌*◌, ◌%◌, ◌<◌, ◌≤◌, min, max, Bool, false, cond, not, ◌&&◌, ◌≢◌, ◌==◌}
 use Rattle.kinds.specs.Group.{Group, sum_to}
 use Rattle.code.specs.Rules.{Blocks, of, Codeword, Agree}
 use Rattle.code.specs.Sizes.{Prime, OddPrime}

@@ -1,5 +1,5 @@
 -- The numbers of stations that a book may have: the odd primes from 3 to 31.
-use Rattle.std.specs.Prelude.{◌≡◌, ℕ, ◌+◌, ◌*◌, ◌/◌, ◌%◌, ◌<◌, ◌≤◌, Bool, true, false, ◌||◌, ◌≢◌, List, [], ◌∷◌, ◌==◌}
+use Rattle.std.specs.Prelude.{◌≡◌, ℕ, ◌+◌, ◌*◌, ◌/◌, ◌%◌, ◌<◌, ◌≤◌, Bool, false, ◌||◌, ◌≢◌, List, [], ◌∷◌, ◌==◌}
 
 abbrev pub Prime : ℕ → Type 0
 Prime n = (1 < n) × ((c : ℕ) → 1 < c → c < n → n % c ≢ 0)

@@ -1,5 +1,5 @@
 -- What each refusal says on a fault slip: its number, the layer in which it began, and its place.
-use Rattle.std.specs.Prelude.{ℕ, Bool, ◌&&◌, List, [], ◌∷◌, ◌++◌, decimal, ◌==◌}
+use Rattle.std.specs.Prelude.{ℕ, Bool, ◌&&◌, List, ◌∷◌, ◌++◌, decimal, ◌==◌}
 use Rattle.std.specs.Cmp.{IsPartialEquivalence, partial_equiv_from_equiv, nat_eq_equiv, on_per, and_per}
 use Rattle.faults.specs.declared.faults.Fault.{Fault}
 use Rattle.faults.specs.declared.faults.Fault.TheVariants.{NotASize, OutAtOpen, AreaTooShort, NoSuchStation, CheckPair, AlreadyAbsent, AlreadyOut, NotOut, AlreadyIn, FillingUnderWay, TooManyAbsent, TicketRefused, StationOut, AbsentAtAudit, WrongLength, WrongVersion, StrayMarks, CutShort, UnknownLetter, WrongRecordLength, SessionTooLong}

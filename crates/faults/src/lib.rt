@@ -1,5 +1,6 @@
 // Refusals: what each one says.
 #![tactic(auto)]
+
 pub mod faults;
 
 pub use faults::{Fault, Layer};

@@ -1,16 +1,15 @@
 -- What writes to an image's bytes do to what they mean.
-use Rattle.std.proofs.Common.{◌≡◌, ℕ, zero, suc, ◌+◌, ◌-◌, ◌*◌, ◌/◌, ◌%◌, ◌^◌, ◌<◌, ◌≤◌, min, max, Bool, true, false, cond, ◌&&◌, ◌≢◌, ◌⊎◌, List, [], ◌∷◌, ◌++◌, length, get_or, replicate, is_ok, sym, refl, ap, ◌∙◌, subst, ap₂, inl, inr, mod-eq_of_lt, arith, lit<, rules}
+use Rattle.std.proofs.Common.{◌≡◌, ℕ, ◌+◌, ◌*◌, ◌/◌, ◌%◌, ◌^◌, ◌<◌, ◌≤◌, min, max, true, false, ◌≢◌, ◌⊎◌, List, [], ◌∷◌, length, get_or, replicate, is_ok, sym, refl, ap, ◌∙◌, subst, inl, inr, mod-eq_of_lt, arith, lit<, rules}
 use borrow.Rule.Slice.PartMut.{put_mid}
 use Rattle.std.proofs.lemmas.Nat.{shr-shr, div-add-mod', div_below}
-use Rattle.std.proofs.lemmas.List.{places, get_or-replicate, ext_get_or}
+use Rattle.std.proofs.lemmas.List.{places, get_or-replicate}
 use Rattle.std.proofs.lemmas.Bool.{cases_eq, cases_lt}
 use Rattle.kinds.specs.Bytes.{same_block}
 use Rattle.code.specs.Marks.{marked, Marked}
 use Rattle.code.specs.Places.{pair_place}
-use Rattle.code.specs.Sizes.{among, sizes, pairs}
 use Rattle.kinds.specs.declared.blocks.Block.{Block}
 use Rattle.code.proofs.Table.{place_only}
-use Rattle.image.specs.Images.{image_check, image_version, image_size, image_marks, image_meaning, big_endian, part, length_part, block_offset, block_at, Overwritten, Filled, TakenOut, BroughtIn}
+use Rattle.image.specs.Images.{image_check, image_size, image_marks, image_meaning, part, block_offset, block_at, Overwritten, Filled, TakenOut, BroughtIn}
 use Rattle.store.specs.Meaning.{Written, Remarked}
 use Rattle.image.proofs.ImageBytes.{part_same, part_is, checked, passes, still_checked}
 use Rattle.store.proofs.TableRows.{place_ordered}

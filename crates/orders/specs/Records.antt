@@ -3,7 +3,7 @@
 --   1 to 2 the length of what follows, big-endian
 --   3      the letter R, W, L, P or C
 --   4 on   the fields: two stations for R; two stations and 64 bytes for W; a station for L and P; none for C
-use Rattle.std.specs.Prelude.{ℕ, ◌+◌, ◌*◌, Bool, true, false, cond, List, [], ◌∷◌, length, take, drop, Ok, Err, Result, ◌==◌, nat_lt, slice_index}
+use Rattle.std.specs.Prelude.{ℕ, ◌+◌, ◌*◌, cond, List, length, take, drop, Ok, Err, Result, ◌==◌, nat_lt, slice_index}
 use Rattle.faults.specs.declared.faults.Fault.{Fault}
 use Rattle.faults.specs.declared.faults.Fault.TheVariants.{WrongVersion, CutShort, UnknownLetter, WrongRecordLength}
 use Rattle.orders.specs.declared.records.Order.{Order}

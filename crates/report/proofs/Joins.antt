@@ -1,5 +1,5 @@
 -- Texts one after another: one more.
-use Rattle.std.proofs.Common.{◌≡◌, ℕ, suc, ◌+◌, List, ◌++◌, sym, subst, add-one}
+use Rattle.std.proofs.Common.{◌≡◌, ℕ, ◌+◌, List, ◌++◌, sym, subst, add-one}
 use Rattle.report.specs.Pairs.{Joined}
 
 pub joined_more : (P : ℕ → List ℕ → Type 0) (k : ℕ) (before last : List ℕ) {text : List ℕ} →

@@ -1,8 +1,8 @@
 -- What a line says of its block, from what recovery answers.
-use Rattle.std.proofs.Common.{◌≡◌, ℕ, ◌*◌, ◌<◌, ◌≤◌, Bool, true, false, cond, ◌&&◌, ◌||◌, ltb, leb, List, [], ◌∷◌, ◌++◌, Ok, Err, codes, Result, sym, refl, ap, ◌∙◌, subst, arith}
+use Rattle.std.proofs.Common.{◌≡◌, ℕ, ◌*◌, ◌<◌, Bool, true, false, ◌||◌, List, ◌++◌, Ok, Err, codes, Result, sym, refl, ap, ◌∙◌, subst, arith}
 use Rattle.std.proofs.lemmas.Bool.Decides.{nat_tests}
 use Rattle.kinds.specs.Bytes.{byte_group}
-use Rattle.code.specs.Rebuilt.{Recovered, Kept, absentees}
+use Rattle.code.specs.Rebuilt.{Recovered}
 use Rattle.kinds.specs.declared.blocks.Block.{Block}
 use Rattle.faults.specs.declared.faults.Fault.{Fault}
 use Rattle.recovery.specs.Recovery.{recover_answer}

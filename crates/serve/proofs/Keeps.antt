@@ -1,20 +1,18 @@
 -- Each accepted call keeps a book matched with the tally.
-use Rattle.std.proofs.Common.{◌≡◌, ℕ, zero, suc, ◌+◌, ◌*◌, ◌<◌, ◌≤◌, min, max, Bool, true, false, cond, not, ◌&&◌, ◌||◌, eqb, ltb, leb, ◌≢◌, ◌⊎◌, is_ok, Ok, Err, sym, refl, ap, ◌∙◌, subst, ap₂, inl, inr, arith}
-use Rattle.std.proofs.lemmas.Bool.{cases_eq, cases_Bool, cases_lt, both_ways, eqb-true, eq-eqb, ne_eqb, or_parts, or_from, or_left, or_right, ltb-false, and_parts, lt-ltb, le-ltb}
-use Rattle.std.proofs.lemmas.Bool.Decides.{nat_tests}
+use Rattle.std.proofs.Common.{◌≡◌, ℕ, ◌+◌, ◌<◌, min, max, Bool, true, false, cond, ◌||◌, eqb, ltb, ◌≢◌, ◌⊎◌, sym, refl, ap, ◌∙◌, subst, ap₂, inl, inr, arith}
+use Rattle.std.proofs.lemmas.Bool.{cases_eq, cases_Bool, cases_lt, both_ways, eq-eqb, ne_eqb, or_parts, or_from, ltb-false, lt-ltb, le-ltb}
 use Rattle.kinds.specs.Group.{Group}
-use Rattle.code.specs.Rebuilt.{absentees, Kept, Recovered}
-use Rattle.code.specs.Rules.{Blocks, of, Codeword, Agree}
+use Rattle.code.specs.Rules.{of, Codeword}
 use Rattle.code.specs.Sizes.{OddPrime}
 use Rattle.code.proofs.Rebuild.{zeros}
 use Rattle.code.proofs.Rows.{of_swap}
 use Rattle.code.proofs.Settled.{settled}
 use Rattle.store.specs.Meaning.{Meaning, Written, Remarked}
 use Rattle.state.specs.Calls.{too_many, Opened, Filled, FilledNext}
-use Rattle.state.specs.Fillings.{next_of, stepped}
+use Rattle.state.specs.Fillings.{stepped}
 use Rattle.serve.specs.Matches.{Matches, FilledPairs}
 use Rattle.state.specs.States.{State, state, size_of, absent, absent_count, being_filled, Sound, SoundAt}
-use Rattle.serve.specs.Tally.{Tally, DataPair, at_start, turned, ended}
+use Rattle.serve.specs.Tally.{Tally, at_start, turned}
 use Rattle.state.specs.declared.records.Filling.{Filling}
 use Rattle.state.specs.declared.records.Filling.TheVariants.{Idle, At}
 

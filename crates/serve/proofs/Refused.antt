@@ -1,5 +1,5 @@
 -- What the calls of a book answer, by the tally that it matches.
-use Rattle.std.proofs.Common.{◌≡◌, ℕ, ◌+◌, ◌*◌, ◌<◌, ◌≤◌, min, max, Bool, true, false, cond, ◌&&◌, ◌||◌, eqb, ltb, leb, ◌⊎◌, is_ok, Some, None, Ok, Err, Option, Result, sym, refl, ap, ◌∙◌, subst, ap₂, inl, inr, arith}
+use Rattle.std.proofs.Common.{◌≡◌, ℕ, ◌+◌, ◌*◌, ◌<◌, min, max, Bool, true, false, cond, ◌&&◌, ◌||◌, eqb, ltb, leb, is_ok, Some, None, Ok, Err, Option, Result, sym, refl, ap, ◌∙◌, subst, ap₂, inl, inr, arith}
 use Rattle.std.proofs.lemmas.Bool.{leb-false, eqb-true, cases_Bool}
 use Rattle.kinds.specs.Group.{Group}
 use Rattle.faults.specs.declared.faults.Fault.{Fault}
@@ -10,7 +10,7 @@ use Rattle.state.specs.States.{State, size_of, absent, absent_count, being_fille
 use Rattle.state.specs.declared.records.Filling.{Filling}
 use Rattle.state.specs.declared.records.Filling.TheVariants.{Idle, At}
 use Rattle.serve.specs.Matches.{Matches}
-use Rattle.serve.specs.Refusals.{absent_now, unless_many, unless_short, data_refusal, out_now, fit_refusal, refusal, granted, by_refusal, answer_to, Told}
+use Rattle.serve.specs.Refusals.{absent_now, unless_many, unless_short, data_refusal, out_now, fit_refusal, refusal, granted, by_refusal, Told}
 use Rattle.serve.specs.Tally.{Tally}
 use Rattle.serve.specs.Turns.{Made}
 use Rattle.serve.specs.declared.turns.Answer.{Answer}

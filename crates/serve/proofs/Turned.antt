@@ -1,16 +1,15 @@
 -- One turn: what the call is promised, and that the book still matches the tally.
-use Rattle.std.proofs.Common.{◌≡◌, ℕ, ◌+◌, ◌*◌, ◌<◌, ◌≤◌, min, max, Bool, true, false, cond, ◌&&◌, ◌||◌, eqb, ltb, leb, ◌≢◌, ◌⊎◌, is_ok, Ok, Err, Result, sym, refl, ap, ◌∙◌, subst, ap₂, inl, inr, arith}
+use Rattle.std.proofs.Common.{◌≡◌, ℕ, ◌+◌, ◌*◌, ◌<◌, ◌≤◌, min, max, Bool, true, false, cond, ◌&&◌, ◌||◌, eqb, ◌⊎◌, is_ok, Ok, Err, Result, sym, refl, ap, ◌∙◌, subst, ap₂, inl, inr, arith}
 use Rattle.std.proofs.lemmas.Bool.{cases_lt, cases_Bool, both_ways, ltb-true, ltb-false, lt-ltb, and_cases, and_parts, and_from, or_parts, eqb-true, eq-eqb}
 use Rattle.std.proofs.lemmas.Bool.Decides.{nat_tests}
 use Rattle.kinds.specs.Group.{Group}
 use Rattle.code.specs.Rebuilt.{absentees, Kept, Recovered}
-use Rattle.code.specs.Rules.{Blocks, of}
+use Rattle.code.specs.Rules.{of}
 use Rattle.faults.specs.declared.faults.Fault.{Fault}
 use Rattle.faults.specs.declared.faults.Fault.TheVariants.{TooManyAbsent}
 use Rattle.code.proofs.Absent.{absentees_cong}
 use Rattle.code.proofs.Settled.{settled}
-use Rattle.store.specs.Meaning.{Meaning}
-use Rattle.state.specs.Calls.{data_answer, read_answer, write_answer, lose_answer, none_filled, fit_answer, finish_answer, too_many, FilledNext}
+use Rattle.state.specs.Calls.{read_answer, write_answer, lose_answer, none_filled, fit_answer, finish_answer, too_many, FilledNext}
 use Rattle.state.specs.Fillings.{next_of, stepped}
 use Rattle.serve.specs.Matches.{Matches}
 use Rattle.state.specs.States.{State, state, size_of, absent, absent_count, being_filled}

@@ -1,5 +1,5 @@
 -- A book whose store and record match a tally.
-use Rattle.std.specs.Prelude.{◌≡◌, ℕ, ◌<◌, Bool, true, false, ◌⊎◌, List, map}
+use Rattle.std.specs.Prelude.{◌≡◌, ℕ, ◌<◌, Bool, false, ◌⊎◌, List, map}
 use Rattle.kinds.specs.Group.{Group}
 use Rattle.code.specs.Rebuilt.{Kept}
 use Rattle.code.specs.Rules.{Blocks, of, Codeword, Agree}

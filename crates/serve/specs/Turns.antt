@@ -1,5 +1,5 @@
 -- What a call does to a book, by its answer: the exact answers and effects of the calls, gathered.
-use Rattle.std.specs.Prelude.{◌≡◌, ℕ, min, Bool, true, false, Ok, Err}
+use Rattle.std.specs.Prelude.{◌≡◌, ℕ, min, true, false, Ok, Err}
 use Rattle.kinds.specs.Group.{Group}
 use Rattle.code.specs.Rebuilt.{Recovered}
 use Rattle.faults.specs.declared.faults.Fault.{Fault}

@@ -1,5 +1,5 @@
 -- The absent stations of a book, as a set beside those that are out.
-use Rattle.std.proofs.Common.{◌≡◌, ℕ, ◌<◌, Bool, ◌||◌, ap, ◌∙◌, arith}
+use Rattle.std.proofs.Common.{◌≡◌, ℕ, ◌<◌, ◌||◌, ap, ◌∙◌, arith}
 use Rattle.code.specs.Marks.{marked}
 use Rattle.code.specs.Rebuilt.{absentees}
 use Rattle.code.proofs.Absent.{absentees_cong}

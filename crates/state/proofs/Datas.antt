@@ -1,5 +1,5 @@
 -- What read and write look at first.
-use Rattle.std.proofs.Common.{◌≡◌, ℕ, ◌+◌, ◌*◌, ◌<◌, ◌≤◌, min, max, Bool, true, false, cond, ◌&&◌, ◌||◌, ltb, leb, is_ok, Ok, Err, Result, sym, refl, ap, ◌∙◌, ap₂, arith}
+use Rattle.std.proofs.Common.{◌≡◌, ℕ, ◌+◌, ◌*◌, ◌<◌, ◌≤◌, max, Bool, true, false, cond, ltb, leb, is_ok, Ok, Err, Result, sym, ap, ◌∙◌, arith}
 use Rattle.std.proofs.lemmas.Bool.{le-ltb, lt-leb, lt-ltb, cond-true}
 use Rattle.std.proofs.lemmas.Bool.Decides.{nat_tests}
 use Rattle.code.specs.Rebuilt.{absentees}
@@ -7,7 +7,6 @@ use Rattle.faults.specs.declared.faults.Fault.{Fault}
 use Rattle.faults.specs.declared.faults.Fault.TheVariants.{TooManyAbsent}
 use Rattle.code.proofs.Absent.{absentees_cong}
 use Rattle.recovery.specs.Recovery.{recover_answer}
-use Rattle.store.specs.Meaning.{Meaning, absent_of}
 use Rattle.state.specs.Calls.{data_answer, read_answer, write_answer, too_many}
 use Rattle.state.specs.States.{State, size_of, absent, absent_count}
 

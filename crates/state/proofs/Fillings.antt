@@ -1,12 +1,11 @@
 -- One step of a filling.
-use Rattle.std.proofs.Common.{◌≡◌, ℕ, ◌+◌, ◌*◌, ◌<◌, ◌≤◌, min, max, Bool, true, false, cond, ◌&&◌, ◌||◌, ltb, leb, ◌⊎◌, is_ok, Ok, Err, Result, sym, refl, ap, ◌∙◌, subst, ap₂, inl, inr, le_of_lt, arith}
-use native.Mathlib.Nat.{max-eq_left, max-eq_right, min-eq_left, min-eq_right}
+use Rattle.std.proofs.Common.{◌≡◌, ℕ, ◌*◌, ◌<◌, ◌≤◌, min, max, Bool, true, false, ◌&&◌, ◌||◌, ltb, leb, ◌⊎◌, is_ok, Ok, Err, Result, sym, refl, ap, ◌∙◌, subst, ap₂, inl, inr, le_of_lt, arith}
+use native.Mathlib.Nat.{max-eq_right, min-eq_right}
 use Rattle.std.proofs.lemmas.Bool.{cases_lt, both_ways, le-ltb, lt-leb, and_right}
 use Rattle.std.proofs.lemmas.Bool.Decides.{nat_tests}
 use Rattle.kinds.specs.Group.{Group}
 use Rattle.code.specs.Rebuilt.{absentees, Recovered}
 use Rattle.faults.specs.declared.faults.Fault.{Fault}
-use Rattle.faults.specs.declared.faults.Fault.TheVariants.{TooManyAbsent}
 use Rattle.code.specs.Marks.{marked}
 use Rattle.code.proofs.Absent.{absentees_cong, recovered_cong}
 use Rattle.recovery.specs.Recovery.{recover_answer}

@@ -1,5 +1,5 @@
 -- What each call of a book answers, and what it leaves.
-use Rattle.std.specs.Prelude.{◌≡◌, ℕ, ◌+◌, ◌*◌, ◌<◌, ◌≤◌, min, max, Bool, true, false, cond, ◌&&◌, ◌||◌, ◌≢◌, Some, None, Ok, Err, Option, Result, ◌==◌, nat_le, nat_lt}
+use Rattle.std.specs.Prelude.{◌≡◌, ℕ, ◌+◌, ◌*◌, ◌<◌, ◌≤◌, min, max, Bool, true, false, cond, ◌&&◌, ◌||◌, Some, None, Ok, Err, Option, Result, ◌==◌, nat_le, nat_lt}
 use Rattle.kinds.specs.Bits.{bit_group}
 use Rattle.kinds.specs.Group.{Group}
 use Rattle.code.specs.Rebuilt.{Recovered}
@@ -9,7 +9,7 @@ use Rattle.faults.specs.declared.faults.Fault.{Fault}
 use Rattle.faults.specs.declared.faults.Fault.TheVariants.{OutAtOpen, AreaTooShort, NoSuchStation, CheckPair, AlreadyAbsent, NotOut, FillingUnderWay, TooManyAbsent, TicketRefused}
 use Rattle.store.specs.Meaning.{Meaning, Written, first}
 use Rattle.state.specs.Fillings.{next_of}
-use Rattle.state.specs.States.{State, state, size_of, being_filled, absent, absent_count}
+use Rattle.state.specs.States.{State, size_of, being_filled, absent, absent_count}
 use Rattle.state.specs.declared.records.Filling.{Filling}
 use Rattle.state.specs.declared.records.Filling.TheVariants.{Idle, At}
 

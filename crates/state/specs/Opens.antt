@@ -1,5 +1,5 @@
 -- A store while it is cleared: zero at the pairs whose larger station is below k, or with a at the partners below k.
-use Rattle.std.specs.Prelude.{◌≡◌, ℕ, ◌<◌, ◌≤◌, Bool, false, ◌≢◌}
+use Rattle.std.specs.Prelude.{◌≡◌, ℕ, ◌<◌, ◌≤◌, false, ◌≢◌}
 use Rattle.kinds.specs.Group.{Group}
 use Rattle.code.specs.Rules.{of}
 use Rattle.store.specs.Meaning.{Meaning}

@@ -1,5 +1,5 @@
 -- What a book means: its store, and the record of the filling.
-use Rattle.std.specs.Prelude.{◌≡◌, ℕ, ◌<◌, ◌≤◌, Bool, true, false, ◌||◌, ◌==◌}
+use Rattle.std.specs.Prelude.{◌≡◌, ℕ, ◌<◌, ◌≤◌, Bool, false, ◌||◌, ◌==◌}
 use Rattle.code.specs.Rebuilt.{absentees}
 use Rattle.store.specs.Meaning.{Meaning}
 use Rattle.state.specs.declared.records.Filling.{Filling}

@@ -1,5 +1,5 @@
 -- What the calls of a book answer to requests, by the tally that it matches.
-use Rattle.std.proofs.Common.{◌≡◌, ℕ, ◌*◌, true, false, cond, ◌||◌, ltb, leb, Some, None, Ok, Err, Option, sym, refl, ap, ◌∙◌}
+use Rattle.std.proofs.Common.{◌≡◌, ℕ, ◌*◌, true, false, cond, ◌||◌, ltb, leb, Some, Err, Option, ap, ◌∙◌}
 use Rattle.std.proofs.lemmas.Bool.{cond-false, le-ltb}
 use Rattle.kinds.specs.Group.{Group}
 use Rattle.faults.specs.declared.faults.Fault.{Fault}

@@ -1,5 +1,5 @@
 -- The filling of a station from its beginning to its end: no fill is refused, and what the book matched it still matches.
-use Rattle.std.proofs.Common.{◌≡◌, ℕ, ◌+◌, ◌*◌, ◌<◌, ◌≤◌, min, max, Bool, true, false, cond, ◌||◌, eqb, ltb, ◌≢◌, Ok, Err, Result, sym, refl, ap, ◌∙◌, subst, ap₂, inl, inr, arith}
+use Rattle.std.proofs.Common.{◌≡◌, ℕ, ◌+◌, ◌*◌, ◌<◌, ◌≤◌, min, max, Bool, true, false, cond, ◌||◌, ltb, ◌≢◌, Ok, Err, Result, sym, refl, ap, ◌∙◌, subst, ap₂, inl, inr, arith}
 use Rattle.std.proofs.lemmas.Bool.{cases_Bool, lt-ltb, le-ltb, eq-eqb, ltb-true, ltb-false}
 use Rattle.kinds.specs.Group.{Group}
 use Rattle.code.specs.Rebuilt.{absentees}
@@ -11,13 +11,11 @@ use Rattle.state.specs.Calls.{fill_answer, too_many, Filled, FilledNext}
 use Rattle.state.specs.Fillings.{stepped}
 use Rattle.book.specs.Tickets.{ticket_after}
 use Rattle.state.specs.States.{State, state, size_of, absent, absent_count, being_filled, Sound, SoundAt}
-use Rattle.state.specs.declared.records.Filling.{Filling}
-use Rattle.state.specs.declared.records.Filling.TheVariants.{Idle, At}
+use Rattle.state.specs.declared.records.Filling.TheVariants.{At}
 use Rattle.book.specs.declared.tickets.FullTicket.{FullTicket}
 use Rattle.book.specs.declared.tickets.OpenTicket.{OpenTicket}
 use Rattle.book.specs.declared.tickets.Ticket.TheVariants.{Open, Full}
 use Rattle.serve.specs.Matches.{Matches}
-use Rattle.serve.specs.Tally.{Tally}
 use Rattle.serve.proofs.Keeps.{keep_fill}
 use Rattle.transcript.specs.Replaces.{CanFillUp, FilledTo, with_filling}
 

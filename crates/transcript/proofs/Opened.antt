@@ -1,5 +1,5 @@
 -- A book over a store with no station out is opened, and ready for requests.
-use Rattle.std.proofs.Common.{◌≡◌, ℕ, zero, suc, ◌+◌, ◌*◌, ◌<◌, ◌≤◌, Bool, true, false, is_ok, None, sym, refl, ap, ◌∙◌, subst, le_refl, add-one, arith}
+use Rattle.std.proofs.Common.{◌≡◌, ℕ, zero, suc, ◌*◌, ◌<◌, ◌≤◌, Bool, true, false, is_ok, None, sym, refl, ap, ◌∙◌, le_refl, add-one, arith}
 use native.Mathlib.Nat.{le_step}
 use Rattle.kinds.specs.Group.{Group}
 use Rattle.store.specs.Meaning.{first}

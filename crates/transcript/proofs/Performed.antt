@@ -1,9 +1,9 @@
 -- A request is answered as the tally says, and leaves the book ready for the next.
-use Rattle.std.proofs.Common.{◌≡◌, ℕ, ◌+◌, ◌*◌, ◌<◌, ◌≤◌, Bool, true, false, cond, ◌&&◌, ◌||◌, leb, is_ok, Some, None, Ok, Err, Option, Result, sym, refl, ap, ◌∙◌, subst, ap₂, arith}
+use Rattle.std.proofs.Common.{◌≡◌, ℕ, ◌*◌, ◌<◌, true, false, is_ok, Some, None, Ok, Err, Option, Result, sym, refl, ap, ◌∙◌, subst, ap₂, arith}
 use Rattle.std.proofs.lemmas.Bool.Decides.{nat_tests}
 use Rattle.kinds.specs.Group.{Group}
 use Rattle.code.specs.Rebuilt.{Recovered}
-use Rattle.code.specs.Rules.{of, Codeword}
+use Rattle.code.specs.Rules.{Codeword}
 use Rattle.code.proofs.Rows.{neighbourhood_cong, diagonal_cong, of_le}
 use Rattle.faults.specs.declared.faults.Fault.{Fault}
 use Rattle.store.specs.Meaning.{Meaning, After, Remarked, first}
@@ -15,7 +15,6 @@ use Rattle.state.specs.Calls.{read_answer, write_answer, lose_answer, Wrote}
 use Rattle.state.specs.States.{State, state, size_of, absent}
 use Rattle.state.specs.declared.records.Filling.{Filling}
 use Rattle.state.proofs.Fillings.{did, left_alone}
-use Rattle.transcript.specs.declared.requests.Response.{Response}
 use Rattle.transcript.specs.declared.requests.Response.TheVariants as reply
 use Rattle.serve.specs.Matches.{Matches}
 use Rattle.serve.specs.Refusals.{by_refusal}
@@ -28,7 +27,7 @@ use Rattle.transcript.specs.Performs.{Ready, Performed, done_reply}
 use Rattle.transcript.specs.Replaces.{Replaced, replace_answer}
 use Rattle.transcript.specs.Replies.{refusal, granted, leaves, audit_refusal}
 use Rattle.transcript.specs.declared.requests.Request.{Request}
-use Rattle.transcript.specs.declared.requests.Request.TheVariants.{Read, Write, Lose, Replace, Audit, Unread}
+use Rattle.transcript.specs.declared.requests.Request.TheVariants.{Read, Write, Lose, Replace, Audit}
 use Rattle.transcript.proofs.Answered.{read_as, write_as, lose_as, replace_as}
 
 module _ {B : Type 0} (G : Group B) (t : Tally B) (st : State B) (len : ℕ) (R : Ready G t st len) where

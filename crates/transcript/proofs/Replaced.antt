@@ -1,19 +1,18 @@
 -- A station that is fitted, filled with every partner and finished stands again.
-use Rattle.std.proofs.Common.{◌≡◌, ℕ, ◌*◌, ◌<◌, ◌≤◌, Bool, true, false, cond, ◌&&◌, ◌||◌, eqb, ltb, leb, is_ok, Ok, Err, sym, refl, ap, ◌∙◌, subst, ap₂, inl, inr, arith}
-use Rattle.std.proofs.lemmas.Bool.{cases_eq, both_ways, eq-eqb, ne_eqb, le-ltb, or_right, cond-true}
+use Rattle.std.proofs.Common.{◌≡◌, ℕ, ◌*◌, ◌<◌, ◌≤◌, true, false, cond, ◌||◌, eqb, ltb, is_ok, Ok, sym, refl, ap, ◌∙◌, subst, ap₂, inl, inr, arith}
+use Rattle.std.proofs.lemmas.Bool.{cases_eq, both_ways, eq-eqb, ne_eqb, or_right, cond-true}
 use Rattle.std.proofs.lemmas.Bool.Decides.{nat_tests}
 use Rattle.kinds.specs.Group.{Group}
 use Rattle.code.specs.Rebuilt.{absentees}
 use Rattle.code.specs.Rules.{of}
 use Rattle.code.proofs.Absent.{absentees_cong}
-use Rattle.store.specs.Meaning.{Meaning, Remarked}
+use Rattle.store.specs.Meaning.{Remarked}
 use Rattle.state.specs.Calls.{fit_answer, finish_answer, none_filled, too_many}
 use Rattle.state.specs.Fillings.{next_of}
-use Rattle.state.specs.States.{State, state, size_of, absent, absent_count, being_filled, SoundAt}
+use Rattle.state.specs.States.{State, state, size_of, absent, being_filled, SoundAt}
 use Rattle.state.specs.declared.records.Filling.{Filling}
 use Rattle.state.specs.declared.records.Filling.TheVariants.{Idle, At}
 use Rattle.serve.specs.Matches.{Matches}
-use Rattle.serve.specs.Tally.{Tally}
 use Rattle.serve.proofs.Keeps.{keep_fit, keep_finish}
 use Rattle.transcript.specs.Replaces.{CanFillUp, FilledTo, Replaced, with_filling, restored}
 

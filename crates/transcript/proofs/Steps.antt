@@ -1,13 +1,11 @@
 -- Requests made one after the other.
-use Rattle.std.proofs.Common.{◌≡◌, ℕ, ◌+◌, ◌<◌, ◌≤◌, List, [], ◌∷◌, ◌++◌, map, length, get_or, take, drop, set, sym, refl, ap, ◌∙◌, subst, ap₂, arith}
+use Rattle.std.proofs.Common.{◌≡◌, ℕ, ◌+◌, ◌<◌, ◌≤◌, List, [], ◌∷◌, ◌++◌, length, get_or, take, drop, set, sym, refl, ap, ◌∙◌, subst, ap₂, arith}
 use Rattle.std.proofs.lemmas.List.{append-nil, append_assoc, map-append, map-set, get_or-map, set-get_or, take_more_set, take_all, drop_more, drop_all, drop-set-lt}
 use Rattle.kinds.specs.Group.{Group}
 use Rattle.state.specs.States.{State, size_of}
-use Rattle.transcript.specs.declared.requests.Response.{Response}
 use Rattle.serve.specs.Tally.{Tally}
 use Rattle.transcript.specs.Performs.{Ready, Performed, Performs}
 use Rattle.transcript.specs.Replies.{reply_to, tally_on, replies, requests_of, replies_of}
-use Rattle.transcript.specs.declared.requests.Request.{Request}
 use Rattle.transcript.specs.declared.requests.Step.{Step}
 
 -- so many requests were made: what follows is answered by the tally that they come to

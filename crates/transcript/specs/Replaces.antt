@@ -1,5 +1,5 @@
 -- Replacing a station: it is fitted, filled until the ticket is full, and finished.
-use Rattle.std.specs.Prelude.{◌≡◌, ℕ, ◌*◌, ◌<◌, ◌≤◌, Bool, true, false, cond, ◌≢◌, Ok, Err, Result, ◌==◌, nat_lt}
+use Rattle.std.specs.Prelude.{◌≡◌, ℕ, ◌*◌, ◌<◌, ◌≤◌, false, cond, ◌≢◌, Ok, Err, Result, ◌==◌, nat_lt}
 use Rattle.kinds.specs.Group.{Group}
 use Rattle.code.specs.Rules.{of}
 use Rattle.faults.specs.declared.faults.Fault.{Fault}

@@ -1,6 +1,6 @@
 -- What is answered to requests, by the absent stations and the last accepted writes alone: nothing is said here of checks,
 -- stores or recovery. Between requests there is no filling.
-use Rattle.std.specs.Prelude.{ℕ, min, max, Bool, true, false, cond, ◌&&◌, ◌||◌, List, [], ◌∷◌, map, Some, None, Option, ◌==◌, nat_le}
+use Rattle.std.specs.Prelude.{ℕ, min, max, true, cond, ◌&&◌, ◌||◌, List, [], ◌∷◌, map, Some, None, Option, ◌==◌, nat_le}
 use Rattle.audit.specs.declared.audits.Verdict.TheVariants.{Sound}
 use Rattle.code.specs.Rules.{of}
 use Rattle.faults.specs.declared.faults.Fault.{Fault}

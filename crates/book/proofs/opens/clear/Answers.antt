@@ -1,4 +1,4 @@
-use Rattle.std.proofs.Common.{◌≡◌, ◌<◌, ◌∙◌, subst, arith}
+use Rattle.std.proofs.Common.{◌≡◌, ◌∙◌, subst, arith}
 use Rattle.code.specs.Sizes.{OddPrime}
 use Rattle.state.specs.Opens.{RowsCleared}
 use Rattle.state.proofs.Cleared.{rows_none, rows_more}

@@ -1,4 +1,4 @@
-use Rattle.std.proofs.Common.{◌≡◌, ◌/◌, ◌^◌, ◌<◌, false, is_ok, sym, ap, ◌∙◌, subst, ap₂, arith}
+use Rattle.std.proofs.Common.{◌/◌, ◌^◌, ◌<◌, false, is_ok, sym, ap, ◌∙◌, subst, ap₂, arith}
 use Rattle.code.specs.Marks.{marked, Marked}
 use Rattle.image.specs.Images.{image_size, Overwritten}
 use Rattle.store.specs.Meaning.{back_answer}

@@ -1,4 +1,4 @@
-use Rattle.std.proofs.Common.{◌≡◌, ℕ, ◌+◌, ◌*◌, ◌<◌, replicate, sym, ap, ◌∙◌, subst, arith}
+use Rattle.std.proofs.Common.{◌≡◌, ◌+◌, ◌*◌, ◌<◌, replicate, ap, subst, arith}
 use Rattle.code.specs.Places.{pair_place}
 use Rattle.code.specs.Sizes.{pairs}
 use Rattle.code.proofs.Table.{place_below}

@@ -1,4 +1,4 @@
-use Rattle.std.proofs.Common.{ℕ, ◌<◌, true, is_ok, sym, ap, arith}
+use Rattle.std.proofs.Common.{ℕ, ◌<◌, is_ok, sym, ap, arith}
 use Rattle.code.proofs.Table.{place_below}
 use Rattle.code.specs.Marks.{marked}
 use Rattle.code.specs.Places.{pair_place}

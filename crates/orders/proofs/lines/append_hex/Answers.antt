@@ -1,7 +1,7 @@
-use Rattle.std.proofs.Common.{◌≡◌, ℕ, ◌+◌, ◌*◌, ◌/◌, ◌%◌, ◌<◌, ◌≤◌, List, [], ◌∷◌, ◌++◌, length, get_or, take, sym, refl, ap, ◌∙◌, ap₂, add-zero, arith}
+use Rattle.std.proofs.Common.{◌≡◌, ℕ, ◌+◌, ◌*◌, ◌<◌, [], ◌∷◌, ◌++◌, length, get_or, take, sym, ap, ◌∙◌, ap₂, arith}
 use Rattle.std.proofs.lemmas.List.{take_more, take_all, length-take-le}
-use Rattle.orders.specs.Lines.{laid_at, hex_digit_lem, hex_text}
-use Rattle.orders.proofs.Laid.{Laid, laid_then, laid_none, hex_push, length_hex}
+use Rattle.orders.specs.Lines.{laid_at, hex_text}
+use Rattle.orders.proofs.Laid.{laid_then, laid_none, hex_push, length_hex}
 use Rattle.orders.proofs.lines.append_hex.Goals as goal
 
 pub loop-byte-init : goal.loop-byte-init

@@ -1,4 +1,4 @@
-use Rattle.std.proofs.Common.{◌≡◌, ℕ, ◌+◌, ◌*◌, ◌≤◌, List, ◌++◌, length, codes, sym, refl, ap, ◌∙◌, zero-add, arith}
+use Rattle.std.proofs.Common.{◌≡◌, length, codes, ap, ◌∙◌, zero-add, arith}
 use Rattle.orders.specs.Lines.{laid_at, hex_text, block_text}
 use Rattle.orders.proofs.Laid.{Laid, laid_then, length_hex}
 use Rattle.orders.proofs.lines.lay_block.Goals as goal

@@ -1,7 +1,7 @@
-use Rattle.std.proofs.Common.{◌≡◌, ℕ, ◌+◌, ◌≤◌, false, ltb, List, [], ◌∷◌, ◌++◌, length, drop, Ok, Err, Result, sym, refl, ap, ◌∙◌, zero-add, arith}
+use Rattle.std.proofs.Common.{◌≡◌, ℕ, ◌+◌, ◌≤◌, false, ltb, [], ◌∷◌, ◌++◌, length, drop, Ok, Result, sym, ap, ◌∙◌, zero-add, arith}
 use Rattle.std.proofs.lemmas.Bool.{le-ltb}
 use Rattle.faults.specs.declared.faults.Fault.{Fault}
-use Rattle.orders.specs.Lines.{laid_at, reply_text, line, line_answer}
+use Rattle.orders.specs.Lines.{reply_text, line, line_answer}
 use Rattle.orders.specs.declared.lines.Reply.{Reply}
 use Rattle.orders.proofs.Laid.{Laid, laid_then}
 use Rattle.orders.proofs.lines.lay_line.Goals as goal

@@ -1,7 +1,7 @@
-use Rattle.std.proofs.Common.{◌≡◌, ℕ, ◌+◌, ◌^◌, ◌<◌, ◌≤◌, List, [], ◌∷◌, ◌++◌, length, codes, decimal, sym, refl, ap, ◌∙◌, ap₂, append_assoc, zero-add, arith, length-append}
+use Rattle.std.proofs.Common.{◌≡◌, ℕ, [], ◌∷◌, ◌++◌, length, codes, decimal, ap, ◌∙◌, ap₂, append_assoc, zero-add, arith, length-append}
 use Rattle.faults.specs.Faults.{letter_of, layer_of, number_of, place_of}
 use Rattle.orders.specs.Lines.{laid_at, refusal_text}
-use Rattle.orders.proofs.Laid.{Laid, laid_then, short_decimal}
+use Rattle.orders.proofs.Laid.{laid_then, short_decimal}
 use Rattle.orders.proofs.lines.lay_refusal.Goals as goal
 
 pub append_number-end-requires : goal.append_number-end-requires

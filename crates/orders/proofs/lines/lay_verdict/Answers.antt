@@ -1,5 +1,4 @@
-use Rattle.std.proofs.Common.{◌≡◌, ℕ, ◌+◌, ◌^◌, ◌<◌, ◌≤◌, List, ◌++◌, length, codes, decimal, sym, refl, ap, ◌∙◌, zero-add, arith, lit<}
-use Rattle.std.proofs.lemmas.Fmt.{length-decimal-le}
+use Rattle.std.proofs.Common.{◌≡◌, ℕ, List, ◌++◌, length, codes, decimal, sym, ap, ◌∙◌, zero-add, arith}
 use Rattle.audit.specs.declared.audits.Verdict.{Verdict}
 use Rattle.orders.specs.Lines.{laid_at, verdict_text}
 use Rattle.orders.proofs.Laid.{Laid, laid_then, short_decimal}

@@ -1,9 +1,9 @@
-use Rattle.std.proofs.Common.{◌≡◌, ℕ, ◌+◌, ◌-◌, ◌<◌, ◌≤◌, true, false, eqb, ltb, List, length, get_or, take, drop, Ok, Err, Result, sym, refl, ap, ◌∙◌, arith}
+use Rattle.std.proofs.Common.{◌≡◌, ℕ, ◌+◌, ◌-◌, ◌<◌, ◌≤◌, true, false, eqb, ltb, List, length, get_or, take, drop, Ok, Err, Result, sym, ap, ◌∙◌, arith}
 use Rattle.std.proofs.lemmas.List.{take_rest, length-drop}
 use Rattle.std.proofs.lemmas.Bool.{ltb-false, le-ltb, lt-ltb, eq-eqb, ne_eqb}
 use Rattle.faults.specs.declared.faults.Fault.{Fault}
 use Rattle.faults.specs.declared.faults.Fault.TheVariants.{CutShort}
-use Rattle.orders.specs.Records.{Asked, ends, asked, front_answer, record_length, order_answer, after_order, ordered}
+use Rattle.orders.specs.Records.{Asked, ends, asked, front_answer, record_length, order_answer, after_order}
 use Rattle.orders.proofs.records.read_front.Goals as goal
 
 -- a record of version 1 that is all there answers by its letter

@@ -1,6 +1,6 @@
-use Rattle.std.proofs.Common.{◌≡◌, ap, ◌∙◌, arith, take_all}
+use Rattle.std.proofs.Common.{ap, ◌∙◌, take_all}
 use Rattle.report.specs.Digits.{hex}
-use Rattle.report.proofs.Hexes.{hex_more, two_pushes}
+use Rattle.report.proofs.Hexes.{two_pushes}
 use Rattle.report.proofs.digits.hex_text.Goals as goal
 
 pub loop-byte-preserved : goal.loop-byte-preserved

@@ -1,4 +1,4 @@
-use Rattle.std.proofs.Common.{◌≡◌, ℕ, ◌++◌, string_bytes, sym, refl, ap, ◌∙◌, subst, arith}
+use Rattle.std.proofs.Common.{◌≡◌, ℕ, ◌++◌, string_bytes, ap, ◌∙◌, subst, arith}
 use Rattle.image.specs.Images.{image_meaning}
 use Rattle.report.specs.Pairs.{StationLines, Joined}
 use Rattle.report.proofs.Joins.{joined_more}

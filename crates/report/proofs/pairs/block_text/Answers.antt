@@ -1,10 +1,7 @@
-use Rattle.std.proofs.Common.{◌≡◌, ℕ, true, false, List, ◌++◌, string_bytes, codes, sym, refl, ap, ◌∙◌}
-use Rattle.kinds.specs.Bytes.{byte_group}
-use Rattle.code.specs.Rebuilt.{Recovered}
+use Rattle.std.proofs.Common.{◌≡◌, ◌++◌, string_bytes, codes, sym, refl, ap, ◌∙◌}
 use Rattle.image.specs.Images.{image_meaning}
 use Rattle.std.proofs.lemmas.Result.{IfOk-weaker}
 use Rattle.report.specs.Digits.{hex}
-use Rattle.report.specs.Pairs.{BlockSaid}
 use Rattle.report.proofs.Says.{said_refused, said_rebuilt, said_stored}
 use Rattle.report.proofs.pairs.block_text.Goals as goal
 

@@ -1,4 +1,4 @@
-use Rattle.std.proofs.Common.{◌≡◌, ℕ, ◌<◌, true, cond, ◌&&◌, ltb, [], ◌∷◌, ◌++◌, decimal, sym, ap, ◌∙◌, add-one, arith}
+use Rattle.std.proofs.Common.{◌≡◌, ℕ, ◌<◌, cond, ◌&&◌, [], ◌∷◌, ◌++◌, decimal, sym, ap, ◌∙◌, add-one, arith}
 use Rattle.std.proofs.lemmas.Result.{IfOk-from_err}
 use Rattle.std.proofs.lemmas.Bool.{lt-ltb}
 use Rattle.report.specs.Reports.{listed}

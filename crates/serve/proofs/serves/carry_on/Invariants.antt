@@ -1,6 +1,6 @@
 use Rattle.std.proofs.Common.{◌≡◌, length, take}
 use Rattle.serve.specs.Matches.{CarriesOn, Tells, calls_of}
-use Rattle.state.specs.States.{state, size_of}
+use Rattle.state.specs.States.{state}
 use Rattle.serve.proofs.serves.carry_on.Given as goal
 
 abbrev pub invariant-loop-i : goal.invariant-loop-i

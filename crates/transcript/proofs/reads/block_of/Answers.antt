@@ -1,4 +1,4 @@
-use Rattle.std.proofs.Common.{◌≡◌, sym, refl, ◌∙◌, arith}
+use Rattle.std.proofs.Common.{refl, ◌∙◌, arith}
 use Rattle.kinds.specs.Bytes.{same_block}
 use Rattle.image.specs.Images.{block_at}
 use Rattle.transcript.proofs.Copied.{copied_none, copied_more, copied_past, copied_all}

@@ -1,5 +1,5 @@
-use Rattle.std.proofs.Common.{◌≡◌, sym, refl, ap, ◌∙◌, arith, rules}
-use Rattle.orders.specs.Records.{asked, read_as, takes, passes, record_answer}
+use Rattle.std.proofs.Common.{ap, ◌∙◌, arith}
+use Rattle.orders.specs.Records.{asked}
 use Rattle.transcript.specs.Sessions.{request_as, next_at}
 use Rattle.transcript.proofs.Records.{taken_within, passed_within}
 use Rattle.transcript.proofs.reads.read_request.Goals as goal

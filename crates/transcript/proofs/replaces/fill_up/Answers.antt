@@ -1,8 +1,8 @@
-use Rattle.std.proofs.Common.{◌≡◌, ℕ, ◌+◌, ◌<◌, ◌≤◌, length, Ok, Err, sym, refl, ap, ◌∙◌, subst, arith}
-use Rattle.state.specs.Calls.{fill_answer, FilledNext}
+use Rattle.std.proofs.Common.{◌≡◌, ◌+◌, ◌<◌, length, Ok, sym, refl, ap, ◌∙◌, subst, arith}
+use Rattle.state.specs.Calls.{fill_answer}
 use Rattle.state.specs.Fillings.{next_of}
 use Rattle.state.specs.States.{state, size_of}
-use Rattle.transcript.specs.Replaces.{CanFillUp, FilledTo}
+use Rattle.transcript.specs.Replaces.{FilledTo}
 use Rattle.transcript.proofs.Filled.{begun, sound_at, accepts, one_more, full_at, open_at, clash}
 use Rattle.transcript.proofs.replaces.fill_up.Goals as goal
 

@@ -1,4 +1,4 @@
-use Rattle.std.proofs.Common.{◌≡◌, ℕ, ◌*◌, ◌≤◌, true, ltb, length, Ok, Err, sym, refl, ap, ◌∙◌, subst, ap₂, arith, rules}
+use Rattle.std.proofs.Common.{◌≡◌, ℕ, ◌*◌, ◌≤◌, true, ltb, length, Err, sym, refl, ap, ◌∙◌, subst, ap₂, arith, rules}
 use Rattle.std.proofs.lemmas.Bool.{both_ways, cond-false, le-ltb}
 use Rattle.faults.specs.declared.faults.Fault.TheVariants.{AreaTooShort}
 use Rattle.store.specs.Meaning.{After}

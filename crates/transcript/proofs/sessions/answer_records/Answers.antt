@@ -1,4 +1,4 @@
-use Rattle.std.proofs.Common.{◌≡◌, ◌*◌, ◌≤◌, true, false, ltb, length, is_ok, sym, refl, ap, ◌∙◌, ap₂, arith}
+use Rattle.std.proofs.Common.{◌≡◌, ◌*◌, ◌≤◌, true, false, ltb, length, is_ok, sym, ap, ◌∙◌, ap₂, arith}
 use Rattle.std.proofs.lemmas.Bool.{le-ltb, cond-true}
 use Rattle.code.specs.Sizes.{among, sizes, pairs}
 use Rattle.faults.specs.declared.faults.Fault.TheVariants.{NotASize}

@@ -1,12 +1,11 @@
-use Rattle.std.proofs.Common.{◌≡◌, ◌*◌, ◌≤◌, true, length, is_ok, sym, refl, ap, ◌∙◌, subst, arith}
+use Rattle.std.proofs.Common.{◌≡◌, ◌*◌, ◌≤◌, true, length, is_ok, sym, ap, ◌∙◌, subst, arith}
 use Rattle.std.proofs.lemmas.Bool.{both_ways}
 use Rattle.state.specs.Calls.{Opened}
 use Rattle.state.specs.Opens.{AllIn}
 use Rattle.state.specs.States.{state, size_of}
 use Rattle.state.proofs.Fillings.{did}
 use Rattle.serve.specs.Tally.{at_start}
-use Rattle.transcript.specs.Performs.{Answered}
-use Rattle.transcript.specs.Replies.{replies, requests_of, replies_of}
+use Rattle.transcript.specs.Replies.{replies, requests_of}
 use Rattle.transcript.proofs.Opened.{opens, ready}
 use Rattle.transcript.proofs.sessions.run_on.Goals as goal
 

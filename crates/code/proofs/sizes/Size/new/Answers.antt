@@ -1,4 +1,4 @@
-use Rattle.std.proofs.Common.{sym, refl, ◌∙◌}
+use Rattle.std.proofs.Common.{sym, refl}
 use Rattle.std.proofs.lemmas.Bool.{both_ways}
 use Rattle.code.specs.Sizes.{among, sizes}
 use Rattle.code.proofs.Primes.{listed_prime, prime_listed}

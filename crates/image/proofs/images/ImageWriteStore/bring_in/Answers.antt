@@ -10,9 +10,11 @@ invariant_of-self c =
     let bs : List ℕ = c.args.self.now.lent.bytes.now in
     let bs' : List ℕ = c.bring_in.new.self.bytes.now in
     let sound = c.args.self.now.sound in
-    record { sound =
-      after_both c.bring_in.result (BroughtIn bs c.args.s bs') (bs' ≡ bs) (is_ok (image_check bs') ≡ true) c.bring_in.ensures.1
-          (bring_sound bs bs' sound c.args.s) (λ e. ap (λ x. is_ok (image_check x)) e ∙ sound) }
+    record {
+      sound =
+          after_both c.bring_in.result (BroughtIn bs c.args.s bs') (bs' ≡ bs) (is_ok (image_check bs') ≡ true) c.bring_in.ensures.1
+          (bring_sound bs bs' sound c.args.s) (λ e. ap (λ x. is_ok (image_check x)) e ∙ sound);
+    }
 
 pub returns : goal.returns
 returns c =

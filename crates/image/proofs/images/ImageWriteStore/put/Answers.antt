@@ -10,9 +10,11 @@ invariant_of-self c =
     let bs : List ℕ = c.args.self.now.lent.bytes.now in
     let bs' : List ℕ = c.put.new.self.bytes.now in
     let sound = c.args.self.now.sound in
-    record { sound =
-      after_both c.put.result (Overwritten bs (block_offset c.args.a c.args.b) c.args.x.bytes bs') (bs' ≡ bs) (is_ok (image_check bs') ≡ true) c.put.ensures.1
-          (put_sound bs bs' sound c.args.a c.args.b c.args.x) (λ e. ap (λ x. is_ok (image_check x)) e ∙ sound) }
+    record {
+      sound =
+          after_both c.put.result (Overwritten bs (block_offset c.args.a c.args.b) c.args.x.bytes bs') (bs' ≡ bs) (is_ok (image_check bs') ≡ true) c.put.ensures.1
+          (put_sound bs bs' sound c.args.a c.args.b c.args.x) (λ e. ap (λ x. is_ok (image_check x)) e ∙ sound);
+    }
 
 pub returns : goal.returns
 returns c =

@@ -1,4 +1,4 @@
-use Rattle.std.proofs.Common.{◌≡◌, ℕ, true, false, List, is_ok, ap, ◌∙◌}
+use Rattle.std.proofs.Common.{◌≡◌, ℕ, true, List, is_ok, ap, ◌∙◌}
 use Rattle.image.specs.Images.{image_check, image_meaning, TakenOut}
 use Rattle.store.specs.Meaning.{Remarked}
 use Rattle.store.proofs.Afters.{after_map, after_both}
@@ -10,9 +10,11 @@ invariant_of-self c =
     let bs : List ℕ = c.args.self.now.lent.bytes.now in
     let bs' : List ℕ = c.take_out.new.self.bytes.now in
     let sound = c.args.self.now.sound in
-    record { sound =
-      after_both c.take_out.result (TakenOut bs c.args.s bs') (bs' ≡ bs) (is_ok (image_check bs') ≡ true) c.take_out.ensures.1
-          (take_sound bs bs' sound c.args.s) (λ e. ap (λ x. is_ok (image_check x)) e ∙ sound) }
+    record {
+      sound =
+          after_both c.take_out.result (TakenOut bs c.args.s bs') (bs' ≡ bs) (is_ok (image_check bs') ≡ true) c.take_out.ensures.1
+          (take_sound bs bs' sound c.args.s) (λ e. ap (λ x. is_ok (image_check x)) e ∙ sound);
+    }
 
 pub returns : goal.returns
 returns c =

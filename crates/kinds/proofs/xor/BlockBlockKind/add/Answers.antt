@@ -1,4 +1,3 @@
-use Rattle.std.proofs.Common.{◌∙◌}
 use Rattle.kinds.specs.Bytes.{same_block, xor_block}
 use Rattle.kinds.proofs.xor.BlockBlockKind.add.Goals as goal
 

@@ -1,4 +1,4 @@
-use Rattle.std.proofs.Common.{◌≡◌, ℕ, Bool, true, false, cond, ltb, length, is_ok, Ok, Err, refl, ap}
+use Rattle.std.proofs.Common.{◌≡◌, ℕ, true, false, cond, ltb, length, is_ok, Ok, Err, ap}
 use Rattle.std.proofs.lemmas.Bool.{both_ways}
 use Rattle.code.specs.Sizes.{among, sizes, pairs}
 use Rattle.faults.specs.declared.faults.Fault.TheVariants.{NotASize, AreaTooShort}

@@ -1,4 +1,4 @@
-use Rattle.std.proofs.Common.{◌<◌, true, false, is_ok, sym, ap, arith}
+use Rattle.std.proofs.Common.{◌<◌, false, is_ok, sym, ap, arith}
 use Rattle.code.specs.Marks.{marked}
 use Rattle.store.proofs.TableRows.{marks_turned, back_below, size_small}
 use Rattle.store.proofs.tables.TableWriteStore.bring_in.Goals as goal

@@ -1,4 +1,4 @@
-use Rattle.std.proofs.Common.{◌≡◌, ◌<◌, length, set, is_ok, sym, ap, ◌∙◌, arith}
+use Rattle.std.proofs.Common.{◌<◌, length, set, is_ok, sym, ap, ◌∙◌, arith}
 use Rattle.code.specs.Marks.{marked}
 use Rattle.code.specs.Places.{pair_place}
 use Rattle.store.proofs.TableRows.{within, row_written}
