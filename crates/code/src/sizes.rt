@@ -1,6 +1,6 @@
 // Sizes: how many stations a book may have.
 ghost use Rattle.std.specs.Prelude.{◌≡◌, true, MatchResult};
-ghost use Rattle.code.specs.Sizes.{OddPrime, among, sizes as listed, pairs as pair-count};
+ghost use Rattle.code.specs.Sizes.{OddPrime, among, sizes as listed, pairs as pair_count};
 ghost use Rattle.faults.specs.declared.faults.Fault.TheVariants.{NotASize};
 
 use faults::Fault;
@@ -39,7 +39,7 @@ impl Size {
 
     // How many pairs there are, a station with itself included.
     pub fn pairs(self) -> usize
-        ensures { result ≡ pair-count self.number }
+        ensures { result ≡ pair_count self.number }
     {
         let n = usize::from(self.number);
         n * (n + 1) / 2

@@ -1,7 +1,7 @@
 // Patterns: the check pairs that are 1 in the codeword of bits with 1 at one data pair and 0 at every other.
 ghost use Rattle.std.specs.Prelude.{◌≡◌, ℕ, ◌+◌, ◌*◌, ◌<◌, ◌≤◌, max, true, false, ◌&&◌, length, is_ok, nat_le, slice_index_or};
 ghost use Rattle.code.specs.Places.{pair_place};
-ghost use Rattle.code.specs.Sizes.{pairs as pair-count};
+ghost use Rattle.code.specs.Sizes.{pairs as pair_count};
 ghost use Rattle.recovery.specs.Patterns.{impulse, pattern_answer, Pattern};
 ghost use Rattle.recovery.specs.Recovery.{row_place_lem};
 
@@ -117,9 +117,9 @@ fn bit_of(n: u8, two: Pair, pair: Pair, rows: &[bool]) -> bool
 // The bits of the check pairs, from the rows of the check stations, and 0 at the data pairs, in place order.
 fn lay_bits(size: Size, two: Pair, rows: &[bool], into: &mut [bool])
     requires rows { 8 * size.number ≤ length rows.now }
-    requires long { pair-count size.number ≤ length into.old }
+    requires long { pair_count size.number ≤ length into.old }
     ensures laid { (x y : ℕ) → x < size.number → y ≤ x → slice_index_or into.new (pair_place x y) false ≡ (nat_le size.number (x + 2) && slice_index_or rows.now (row_place_lem size.number two x y) false) }
-    ensures later { (p : ℕ) → pair-count size.number ≤ p → slice_index_or into.new p false ≡ slice_index_or into.old p false }
+    ensures later { (p : ℕ) → pair_count size.number ≤ p → slice_index_or into.new p false ≡ slice_index_or into.old p false }
 {
     let n = size.number();
     for p in 0..size.pairs() {
@@ -132,7 +132,7 @@ fn lay_bits(size: Size, two: Pair, rows: &[bool], into: &mut [bool])
 // Lays the pattern of a data pair.
 fn lay_pattern(size: Size, a: u8, b: u8, work: &mut [bool], into: &mut [bool])
     requires work { 8 * size.number ≤ length work.old }
-    requires long { pair-count size.number ≤ length into.old }
+    requires long { pair_count size.number ≤ length into.old }
     requires inner { max a b + 2 < size.number }
     ensures { Pattern size.number a b into.old into.new }
 {

@@ -1,6 +1,6 @@
 // The table: a store for writing over a borrowed row of blocks of any kind.
 ghost use Rattle.std.specs.Prelude.{◌≡◌, ◌<◌, ◌≤◌, true, false, cond, length, is_ok, slice_index_or, slice_set};
-ghost use Rattle.code.specs.Sizes.{pairs as pair-count};
+ghost use Rattle.code.specs.Sizes.{pairs as pair_count};
 ghost use Rattle.store.specs.Tables.{table_check, table_meaning};
 
 use crate::refusals::{admit_in, admit_out, admit_pair};
@@ -62,7 +62,7 @@ pub struct Table<'a, B> {
     size: Size,
     out: Marks,
     blocks: Row<'a, B>,
-    ghost long: { pair-count size.number ≤ length blocks.row.now },
+    ghost long: { pair_count size.number ≤ length blocks.row.now },
 }
 
 impl<'a, B: BlockKind> Table<'a, B> {
