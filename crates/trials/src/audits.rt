@@ -7,16 +7,22 @@ use image::{ReadImage, check_image};
 use std::process::Abort;
 use std::test::Fail;
 
-fn audits(rt: &impl Abort, bytes: &[u8], answer: Result<Verdict, Fault>) -> Result<(), Fail> {
+// The audit of an image answers so, in a case of this number.
+fn audits(
+    rt: &impl Abort,
+    bytes: &[u8],
+    answer: Result<Verdict, Fault>,
+    case: usize,
+) -> Result<(), Fail> {
     check_image(bytes)?;
-    assert_eq!(rt; audit(&ReadImage::make(bytes)), answer);
+    assert_eq!(rt; audit(&ReadImage::make(bytes)), answer, "{}", case);
     Ok(())
 }
 
 #[test]
 fn lawful_images(rt: HostRuntime) -> Result<(), Fail> {
-    audits(&rt, three(rt.alloc(), 0)?.as_slice(), Ok(Verdict::Sound))?;
-    audits(&rt, five(rt.alloc(), 0)?.as_slice(), Ok(Verdict::Sound))
+    audits(&rt, three(rt.alloc(), 0)?.as_slice(), Ok(Verdict::Sound), 3)?;
+    audits(&rt, five(rt.alloc(), 0)?.as_slice(), Ok(Verdict::Sound), 5)
 }
 
 // The first rule that a flipped bit at a pair of five stations breaks.
@@ -35,7 +41,7 @@ fn one_bit_flipped(rt: HostRuntime) -> Result<(), Fail> {
         for smaller in 0..=larger {
             let mut bytes = five(rt.alloc(), 0)?;
             flip(&mut bytes, p)?;
-            audits(&rt, bytes.as_slice(), Ok(first_rule(larger, smaller)))?;
+            audits(&rt, bytes.as_slice(), Ok(first_rule(larger, smaller)), p)?;
             p = p.wrapping_add(1);
         }
     }
@@ -60,7 +66,8 @@ fn stations_out(rt: HostRuntime) -> Result<(), Fail> {
             Some(s) => Err(Fault::AbsentAtAudit(s)),
             None => Ok(Verdict::Sound),
         };
-        audits(&rt, five(rt.alloc(), marks)?.as_slice(), answer)?;
+        let image = five(rt.alloc(), marks)?;
+        audits(&rt, image.as_slice(), answer, marks as usize)?;
     }
     Ok(())
 }

@@ -6,7 +6,7 @@ use std::test::Fail;
 // Of all numbers, the set has s and no other.
 fn has_only(rt: &impl Abort, set: Marks, s: u8) -> Result<(), Fail> {
     for k in 0..=255 {
-        assert_eq!(rt; set.has(k), k == s, "{}", k);
+        assert_eq!(rt; set.has(k), k == s, "{} of {}", k, s);
     }
     Ok(())
 }
@@ -14,7 +14,7 @@ fn has_only(rt: &impl Abort, set: Marks, s: u8) -> Result<(), Fail> {
 // Of the numbers below 32, the set lacks s and no other.
 fn lacks_only(rt: &impl Abort, set: Marks, s: u8) -> Result<(), Fail> {
     for k in 0..32 {
-        assert_eq!(rt; set.has(k), k != s, "{}", k);
+        assert_eq!(rt; set.has(k), k != s, "{} of {}", k, s);
     }
     Ok(())
 }

@@ -18,13 +18,13 @@ fn answer_at(turns: &[Turn<bool>], i: usize) -> Answer<bool> {
 }
 
 // The last call of a list was refused with this slip.
-fn says(rt: &impl Abort, turns: &[Turn<bool>], slip: Slip) -> Result<(), Fail> {
+fn says(rt: &impl Abort, turns: &[Turn<bool>], slip: Slip, case: usize) -> Result<(), Fail> {
     let Answer::Refused(fault) = answer_at(turns, 1) else {
         return Err(Fail::new("not refused"));
     };
-    assert_eq!(rt; fault.number(), slip.0);
-    assert_eq!(rt; fault.layer().letter(), slip.1);
-    assert_eq!(rt; fault.place(), slip.2);
+    assert_eq!(rt; fault.number(), slip.0, "{}", case);
+    assert_eq!(rt; fault.layer().letter(), slip.1, "{}", case);
+    assert_eq!(rt; fault.place(), slip.2, "{}", case);
     Ok(())
 }
 
@@ -72,20 +72,31 @@ fn refuses(
     before: &[Move],
     made: Move,
     slip: Slip,
+    case: usize,
 ) -> Result<(), Fail> {
     let without = play(heap, before, &[], &[])?;
     let with = play(heap, before, &[made], &[])?;
-    says(rt, with.turns.as_slice(), slip)?;
-    assert!(rt; with.row == without.row && with.work == without.work);
+    says(rt, with.turns.as_slice(), slip, case)?;
+    assert!(rt;
+        with.row == without.row && with.work == without.work,
+        "{}",
+        case
+    );
     Ok(())
 }
 
 // With the call and without it, what comes after is the same.
-fn ends_alike(rt: &impl Abort, heap: Global, before: &[Move], made: Move) -> Result<(), Fail> {
+fn ends_alike(
+    rt: &impl Abort,
+    heap: Global,
+    before: &[Move],
+    made: Move,
+    case: usize,
+) -> Result<(), Fail> {
     let without = play(heap, before, &[], &ENDING)?;
     let with = play(heap, before, &[made], &ENDING)?;
     let same = same_ends(with.turns.as_slice(), without.turns.as_slice(), 12);
-    assert!(rt; same && with.row == without.row);
+    assert!(rt; same && with.row == without.row, "{}", case);
     Ok(())
 }
 
@@ -96,8 +107,8 @@ fn each_refuses(
     cases: &[(Move, Slip)],
 ) -> Result<(), Fail> {
     for (i, case) in cases.iter().enumerate() {
-        refuses(rt, heap, before, case.0, case.1)?;
-        ends_alike(rt, heap, before, case.0)?;
+        refuses(rt, heap, before, case.0, case.1, i)?;
+        ends_alike(rt, heap, before, case.0, i)?;
     }
     Ok(())
 }

@@ -19,7 +19,7 @@ fn is(rt: &impl Abort, fault: Fault, number: u8, layer: char, place: u8) {
 fn not_opened<S: WriteStore + Drop>(rt: &impl Abort, store: S, s: u8) -> Result<(), Fail> {
     let mut book = Book::make(store);
     for t in s..5 {
-        assert_eq!(rt; book.lose(t), Ok(()));
+        assert_eq!(rt; book.lose(t), Ok(()), "{}", s);
     }
     let (Err(open), Err(audit)) = (book.open(), book.audit()) else {
         return Err(Fail::new("not refused"));
@@ -117,10 +117,10 @@ fn come_back<S: WriteStore + Drop>(
     let (open, first) = tell_open(&mut book, s, work);
     let audited = audit_filling(&mut book, s);
     let (full, second) = tell_full(&mut book, s, work);
-    assert_eq!(rt; audited, Err(Fault::AbsentAtAudit(s)));
+    assert_eq!(rt; audited, Err(Fault::AbsentAtAudit(s)), "{}", s);
     assert!(rt; open == s && full == s);
-    assert_eq!(rt; first, Some(Fault::TicketRefused(s)));
-    assert_eq!(rt; second, Some(Fault::TicketRefused(s)));
+    assert_eq!(rt; first, Some(Fault::TicketRefused(s)), "{}", s);
+    assert_eq!(rt; second, Some(Fault::TicketRefused(s)), "{}", s);
     Ok(())
 }
 

@@ -10,14 +10,14 @@ use store::{ReadStore, Table, WriteStore, check_table};
 // Open and audit name the smallest station that is absent, here s.
 fn opened<S: WriteStore + Drop>(rt: &impl Abort, store: S, s: u8) -> Result<(), Fail> {
     let mut book = Book::make(store);
-    assert_eq!(rt; book.open(), Ok(()));
-    assert_eq!(rt; book.audit(), Ok(Verdict::Sound));
-    assert_eq!(rt; book.lose(4), Ok(()));
+    assert_eq!(rt; book.open(), Ok(()), "{}", s);
+    assert_eq!(rt; book.audit(), Ok(Verdict::Sound), "{}", s);
+    assert_eq!(rt; book.lose(4), Ok(()), "{}", s);
     if s < 4 {
-        assert_eq!(rt; book.lose(s), Ok(()));
+        assert_eq!(rt; book.lose(s), Ok(()), "{}", s);
     }
-    assert_eq!(rt; book.open(), Err(Fault::OutAtOpen(s)));
-    assert_eq!(rt; book.audit(), Err(Fault::AbsentAtAudit(s)));
+    assert_eq!(rt; book.open(), Err(Fault::OutAtOpen(s)), "{}", s);
+    assert_eq!(rt; book.audit(), Err(Fault::AbsentAtAudit(s)), "{}", s);
     Ok(())
 }
 
@@ -148,14 +148,14 @@ fn stale_open<S: WriteStore + Drop>(
     let (three, third) = fill_by(&mut own, two, work);
     let same = station(&three);
     let touched = lost.abandon(three);
-    assert_eq!(rt; first, Some(Fault::AreaTooShort(39)));
-    assert_eq!(rt; second, Some(Fault::TicketRefused(s)));
-    assert_eq!(rt; third, None);
+    assert_eq!(rt; first, Some(Fault::AreaTooShort(39)), "{}", s);
+    assert_eq!(rt; second, Some(Fault::TicketRefused(s)), "{}", s);
+    assert_eq!(rt; third, None, "{}", s);
     assert_eq!(rt; same, s);
-    assert!(rt; !touched);
-    assert_eq!(rt; lost.audit(), Err(Fault::AbsentAtAudit(0)));
-    assert_eq!(rt; own.lose(s), Err(Fault::AlreadyAbsent(s)));
-    assert_eq!(rt; own.audit(), Err(Fault::AbsentAtAudit(s)));
+    assert!(rt; !touched, "{}", s);
+    assert_eq!(rt; lost.audit(), Err(Fault::AbsentAtAudit(0)), "{}", s);
+    assert_eq!(rt; own.lose(s), Err(Fault::AlreadyAbsent(s)), "{}", s);
+    assert_eq!(rt; own.audit(), Err(Fault::AbsentAtAudit(s)), "{}", s);
     Ok(())
 }
 
@@ -207,7 +207,7 @@ fn stale_full<S: WriteStore + Drop>(
     let (half, _) = fill_by(&mut begun, begins, work);
     // Ended at a book that is not filling, so that its own goes on.
     let touched = own.abandon(half);
-    assert!(rt; !touched);
+    assert!(rt; !touched, "{}", s);
     let one = Ticket::Open(own.fit(s)?);
     let (two, _) = fill_by(&mut own, one, work);
     let (three, _) = fill_by(&mut own, two, work);
@@ -215,10 +215,10 @@ fn stale_full<S: WriteStore + Drop>(
     let (five, _) = fill_by(&mut own, four, work);
     let (full, _) = fill_by(&mut own, five, work);
     let (fault, taken) = told(full, &mut begun, &mut own);
-    assert_eq!(rt; fault, Some(Fault::TicketRefused(s)));
-    assert!(rt; taken);
-    assert_eq!(rt; own.audit(), Ok(Verdict::Sound));
-    assert_eq!(rt; begun.audit(), Err(Fault::AbsentAtAudit(s)));
+    assert_eq!(rt; fault, Some(Fault::TicketRefused(s)), "{}", s);
+    assert!(rt; taken, "{}", s);
+    assert_eq!(rt; own.audit(), Ok(Verdict::Sound), "{}", s);
+    assert_eq!(rt; begun.audit(), Err(Fault::AbsentAtAudit(s)), "{}", s);
     Ok(())
 }
 

@@ -55,7 +55,7 @@ fn line_text(heap: Global, line: Line) -> Result<String, AllocError> {
 // The input is answered by the text.
 pub fn answers(rt: &impl Abort, heap: Global, input: &[u8], text: &[u8]) -> Result<(), Fail> {
     let told = transcribe(heap, input)?;
-    assert_eq!(rt; told.as_slice(), text);
+    assert_eq!(rt; told.as_slice(), text, "{:?}", input);
     Ok(())
 }
 

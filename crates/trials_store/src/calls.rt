@@ -10,13 +10,18 @@ use store::{ReadStore, WriteStore};
 pub type Slip = (u8, char, usize);
 
 // A refusal with this slip.
-pub fn says(rt: &impl Abort, answer: Result<(), Fault>, slip: Slip) -> Result<(), Fail> {
+pub fn says(
+    rt: &impl Abort,
+    answer: Result<(), Fault>,
+    slip: Slip,
+    case: usize,
+) -> Result<(), Fail> {
     match answer {
         Ok(()) => Err(Fail::new("not refused")),
         Err(fault) => {
-            assert_eq!(rt; fault.number(), slip.0);
-            assert_eq!(rt; fault.layer().letter(), slip.1);
-            assert_eq!(rt; fault.place(), slip.2);
+            assert_eq!(rt; fault.number(), slip.0, "{}", case);
+            assert_eq!(rt; fault.layer().letter(), slip.1, "{}", case);
+            assert_eq!(rt; fault.place(), slip.2, "{}", case);
             Ok(())
         }
     }
@@ -96,11 +101,12 @@ pub fn refuses<S: WriteStore<Block = Block>>(
     marks: u8,
     call: Call,
     slip: Slip,
+    case: usize,
 ) -> Result<(), Fail> {
     let mut block = sample(77);
     marked(rt, store, marks);
-    says(rt, answer(store, call, &mut block), slip)?;
-    assert!(rt; block.same(sample(77)));
+    says(rt, answer(store, call, &mut block), slip, case)?;
+    assert!(rt; block.same(sample(77)), "{}", case);
     marked(rt, store, marks);
     Ok(())
 }

@@ -13,9 +13,10 @@ fn image_refuses(
     marks: u8,
     call: Call,
     slip: Slip,
+    case: usize,
 ) -> Result<(), Fail> {
     check_image(bytes)?;
-    refuses(rt, &mut Image::make(bytes), marks, call, slip)
+    refuses(rt, &mut Image::make(bytes), marks, call, slip, case)
 }
 
 #[test]
@@ -24,7 +25,7 @@ fn calls_refused(rt: HostRuntime) -> Result<(), Fail> {
     for (marks, call, slip) in REFUSALS {
         let before = image_of(&sample_row(), marks)?;
         let mut bytes = before;
-        image_refuses(&rt, &mut bytes, marks, call, slip)?;
+        image_refuses(&rt, &mut bytes, marks, call, slip, i)?;
         assert!(rt; bytes == before, "{}", i);
         i = i.wrapping_add(1);
     }
@@ -78,14 +79,14 @@ fn put_at_every_pair(rt: HostRuntime) -> Result<(), Fail> {
 fn take_out(rt: &impl Abort, bytes: &mut [u8; 970], s: u8) -> Result<(), Fail> {
     check_image(bytes)?;
     let mut image = Image::make(bytes);
-    assert_eq!(rt; image.take_out(s), Ok(()));
+    assert_eq!(rt; image.take_out(s), Ok(()), "{}", s);
     Ok(())
 }
 
 fn bring_in(rt: &impl Abort, bytes: &mut [u8; 970], s: u8) -> Result<(), Fail> {
     check_image(bytes)?;
     let mut image = Image::make(bytes);
-    assert_eq!(rt; image.bring_in(s), Ok(()));
+    assert_eq!(rt; image.bring_in(s), Ok(()), "{}", s);
     Ok(())
 }
 
@@ -111,10 +112,10 @@ fn out_and_in(rt: &impl Abort, marks: u8, s: u8) -> Result<(), Fail> {
     let mut bytes = image_of(&sample_row(), marks)?;
     let mut expected = lost_bytes(&bytes, s)?;
     take_out(rt, &mut bytes, s)?;
-    assert!(rt; bytes == expected);
+    assert!(rt; bytes == expected, "{}", s);
     bring_in(rt, &mut bytes, s)?;
     expected[9] = marks;
-    assert!(rt; bytes == expected);
+    assert!(rt; bytes == expected, "{}", s);
     Ok(())
 }
 

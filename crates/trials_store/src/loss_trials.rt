@@ -31,7 +31,7 @@ fn recovers_each(
 fn audit_refused(rt: &impl Abort, image: &Image<'_>, s: u8) -> Result<(), Fail> {
     match audit(image) {
         Ok(_) => Err(Fail::new("not refused")),
-        Err(fault) => says(rt, Err(fault), (12, 'b', usize::from(s))),
+        Err(fault) => says(rt, Err(fault), (12, 'b', usize::from(s)), usize::from(s)),
     }
 }
 
@@ -39,7 +39,7 @@ fn audit_refused(rt: &impl Abort, image: &Image<'_>, s: u8) -> Result<(), Fail> 
 fn loses(rt: &impl Abort, bytes: &mut [u8; 970], i: u8, j: u8, row: &[Block]) -> Result<(), Fail> {
     check_image(bytes)?;
     let mut image = Image::make(bytes);
-    assert_eq!(rt; audit(&image)?, Verdict::Sound);
+    assert_eq!(rt; audit(&image)?, Verdict::Sound, "{}", i);
     image.take_out(i)?;
     audit_refused(rt, &image, i)?;
     image.take_out(j)?;

@@ -25,7 +25,7 @@ fn rows_refused(rt: HostRuntime) -> Result<(), Fail> {
     ];
     for (n, length, slip) in cases {
         assert!(rt; length <= 20);
-        says(&rt, check_table(n, &row[0..length]), slip)?;
+        says(&rt, check_table(n, &row[0..length]), slip, usize::from(n))?;
     }
     Ok(())
 }
@@ -64,11 +64,12 @@ fn table_refuses(
     marks: u8,
     call: Call,
     slip: Slip,
+    case: usize,
 ) -> Result<(), Fail> {
     check_table(5, row)?;
     let mut table = Table::make(5, row);
     take_marked(&mut table, marks)?;
-    refuses(rt, &mut table, marks, call, slip)
+    refuses(rt, &mut table, marks, call, slip, case)
 }
 
 #[test]
@@ -76,7 +77,7 @@ fn calls_refused(rt: HostRuntime) -> Result<(), Fail> {
     let mut i = 0usize;
     for (marks, call, slip) in REFUSALS {
         let mut row = sample_row();
-        table_refuses(&rt, &mut row, marks, call, slip)?;
+        table_refuses(&rt, &mut row, marks, call, slip, i)?;
         same_rows(&rt, &row, &sample_row())?;
         i = i.wrapping_add(1);
     }
