@@ -1,7 +1,7 @@
 -- The work area while the stations i and j are rebuilt, i before j, of n stations: rows of n blocks.
 -- The first two are the rows of i and of j, the third the neighbourhood sums, the fourth the diagonal sums, the fifth
 -- how far the row of i changes along the walk i, j, j + (j - i), .. round the stations.
-use Rattle.std.specs.Prelude.{◌≡◌, ℕ, ◌+◌, ◌-◌, ◌*◌, ◌%◌, ◌<◌, ◌≤◌, cond, List, set, ◌==◌, slice_index_or, slice_set}
+use Rattle.std.specs.Prelude.{◌≡◌, ℕ, ◌+◌, ◌-◌, ◌*◌, ◌%◌, ◌<◌, ◌≤◌, cond, List, ◌==◌, slice_index_or, slice_set}
 use Rattle.kinds.specs.Group.{Group, sum_to}
 
 -- where the walk is at time t
@@ -42,7 +42,7 @@ module _ {B : Type 0} (G : Group B) where
   abbrev pub closed : ℕ → ℕ → ℕ → List B → List B
   closed n i j area =
       let x : B = from area (3 * n) j in
-      let both : List B = set (slice_set area j x) (n + i) x in
+      let both : List B = slice_set (slice_set area j x) (n + i) x in
       let loop_j : B = G.sum (from area (3 * n) (station n i j 2)) (from area 0 (station n i j 2)) in
       let loop_i : B = G.sum (from area (3 * n) i) (from area n (station n i j (n - 1))) in
       slice_set (slice_set both (n + j) loop_j) i loop_i
