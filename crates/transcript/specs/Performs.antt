@@ -3,7 +3,7 @@ use Rattle.std.specs.Prelude.{◌≡◌, ℕ, ◌*◌, ◌≤◌, List, Ok, Err,
 use Rattle.kinds.specs.Group.{Group}
 use Rattle.faults.specs.declared.faults.Fault.{Fault}
 use Rattle.transcript.specs.declared.requests.Response.{Response}
-use Rattle.transcript.specs.declared.requests.Response.TheVariants as reply
+use Rattle.transcript.specs.declared.requests.Response.TheVariants as response
 use Rattle.state.specs.States.{State, size_of}
 use Rattle.state.specs.declared.records.Filling.TheVariants.{Idle}
 use Rattle.serve.specs.Matches.{Matches}
@@ -14,8 +14,8 @@ use Rattle.transcript.specs.declared.requests.Step.{Step}
 
 -- what a call that hands out nothing is answered by
 abbrev pub done_reply : {B : Type 0} → Result (Unit {0}) Fault → Response B
-done_reply (Ok x) = reply.Done
-done_reply (Err f) = reply.Refused f
+done_reply (Ok x) = response.Done
+done_reply (Err f) = response.Refused f
 
 -- a book with no filling that matches a tally, and a full work area
 pub record Ready {B : Type 0} (G : Group B) (t : Tally B) (st : State B) (len : ℕ) : Type 0 where

@@ -6,7 +6,7 @@ use Rattle.code.specs.Rules.{of}
 use Rattle.faults.specs.declared.faults.Fault.{Fault}
 use Rattle.faults.specs.declared.faults.Fault.TheVariants.{NoSuchStation, AlreadyAbsent, NotOut, AbsentAtAudit}
 use Rattle.transcript.specs.declared.requests.Response.{Response}
-use Rattle.transcript.specs.declared.requests.Response.TheVariants as reply
+use Rattle.transcript.specs.declared.requests.Response.TheVariants as response
 use Rattle.serve.specs.Refusals.{unless_many, data_refusal, by_refusal}
 use Rattle.serve.specs.Tally.{Tally, turned}
 use Rattle.store.specs.Meaning.{first}
@@ -32,12 +32,12 @@ module _ {B : Type 0} (n : ℕ) (t : Tally B) where
 
   -- what one that is accepted is answered: a read the last write to its pair
   abbrev pub granted : Request B → Response B
-  granted (Read a b) = reply.Block (of t.last a b)
-  granted (Write a b x) = reply.Done
-  granted (Lose s) = reply.Done
-  granted (Replace s) = reply.Done
-  granted Audit = reply.Found Sound
-  granted (Unread f) = reply.Done
+  granted (Read a b) = response.Block (of t.last a b)
+  granted (Write a b x) = response.Done
+  granted (Lose s) = response.Done
+  granted (Replace s) = response.Done
+  granted Audit = response.Found Sound
+  granted (Unread f) = response.Done
 
   -- and what it leaves
   abbrev pub leaves : Request B → Tally B
@@ -49,7 +49,7 @@ module _ {B : Type 0} (n : ℕ) (t : Tally B) where
   leaves (Unread f) = t
 
 abbrev pub reply_to : {B : Type 0} → ℕ → Tally B → Request B → Response B
-reply_to n t q = by_refusal (refusal n t q) (granted n t q) (λ f. reply.Refused f)
+reply_to n t q = by_refusal (refusal n t q) (granted n t q) (λ f. response.Refused f)
 
 -- refused requests change nothing
 abbrev pub tally_on : {B : Type 0} → ℕ → Tally B → Request B → Tally B
