@@ -1,23 +1,16 @@
 -- The places of the pairs of n stations are the numbers below n (n + 1) / 2.
-use Rattle.std.proofs.Common.{◌≡◌, ℕ, ◌+◌, ◌*◌, ◌/◌, ◌<◌, ◌≤◌, ap₂, inl, inr, mul-le-mul, arith}
-use native.Mathlib.Nat.{max-eq_left, min-eq_right}
+use Rattle.std.proofs.Common.{ℕ, ◌<◌, ◌≤◌, inl, inr, arith}
 use Rattle.std.proofs.lemmas.Bool.{cases_lt}
 use Rattle.code.specs.Places.{pair_place}
 use Rattle.code.specs.Sizes.{pairs}
+use Rattle.code.proofs.Table.{triangle, triangle_mono, place_le}
 
--- of a pair with the larger station first
-pub place_le : (x y : ℕ) → y ≤ x → pair_place x y ≡ x * (x + 1) / 2 + y
-place_le x y l = ap₂ (λ u v. u * (u + 1) / 2 + v) (max-eq_left l) (min-eq_right l)
-
--- more stations have more pairs
-more_pairs : (m n : ℕ) → m ≤ n → m * (m + 1) ≤ n * (n + 1)
-more_pairs m n l = let k : m + 1 ≤ n + 1 = omega arith in mul-le-mul l k
-
+-- at most 31 stations have at most 496 pairs
 pub pairs_few : (n : ℕ) → n ≤ 31 → pairs n ≤ 496
-pairs_few n l = omega (arith, more_pairs n 31 l)
+unfolding triangle
+pairs_few n l = triangle_mono n 31 l
 
-pub place_below : (n x y : ℕ) → x < n → y ≤ x → pair_place x y < pairs n
-place_below n x y lx ly = omega (arith, place_le x y ly, more_pairs (x + 1) n (omega arith))
-
+-- a place of n stations has one of them as the larger station
 pub below_place : (n x y : ℕ) → y ≤ x → pair_place x y < pairs n → x < n
-below_place n x y ly l = elim (cases_lt x n) [ inl h ↦ h | inr h ↦ absurd (omega (arith, place_le x y ly, more_pairs n x h)) ]
+unfolding triangle
+below_place n x y ly l = elim (cases_lt x n) [ inl h ↦ h | inr h ↦ absurd (omega (arith, place_le x y ly, triangle_mono n x h)) ]

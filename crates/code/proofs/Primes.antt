@@ -1,13 +1,13 @@
 -- The listed sizes are the odd primes up to 31, by computed tests.
-use Rattle.std.proofs.Common.{◌≡◌, ℕ, zero, suc, ◌%◌, ◌<◌, ◌≤◌, Bool, true, false, not, ◌&&◌, ◌||◌, eqb, ltb, leb, ◌≢◌, ◌⊎◌, sym, refl, subst, inl, inr, le_refl, not-suc-le-zero, arith}
+use Rattle.std.proofs.Common.{◌≡◌, ℕ, zero, suc, ◌%◌, ◌<◌, ◌≤◌, Bool, true, false, not, ◌&&◌, ◌||◌, eqb, ltb, leb, ◌≢◌, ◌⊎◌, refl, inl, inr, le_refl, not-suc-le-zero, below_more, arith}
 use native.Mathlib.Nat.{le_step}
-use Rattle.std.proofs.lemmas.Bool.{cases_eq, both_ways, eqb-true, ltb-true, leb-true, and_parts, and_from, or_cases, or_left, or_right, lt-ltb, ne_eqb, not_from_false, not-true, cases_lt, cases_Bool}
+use Rattle.std.proofs.lemmas.Bool.{both_ways, eqb-true, ltb-true, leb-true, and_parts, and_from, or_cases, or_left, or_right, lt-ltb, ne_eqb, not_from_false, not-true, cases_lt, cases_Bool}
 use Rattle.std.proofs.lemmas.Bool.Decides.{nat_tests}
 use Rattle.code.specs.Sizes.{OddPrime, sizes, among}
 
 -- what holds below n and at n holds below n + 1
 pub upto : (P : ℕ → Type 0) (n : ℕ) → ((k : ℕ) → k < n → P k) → P n → (k : ℕ) → k < suc n → P k
-upto P n h p k l = elim (cases_eq k n) [ inl e ↦ subst P (sym e) p | inr e ↦ h k (omega arith) ]
+upto P n h p k l = below_more P n h p k (omega arith)
 
 -- a test that passes at each number below n
 abbrev pub each_below : (ℕ → Bool) → ℕ → Bool

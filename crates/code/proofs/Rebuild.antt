@@ -1,10 +1,11 @@
 -- Two lost stations can be rebuilt in exactly one way.
 use Rattle.std.proofs.Common.{◌≡◌, ℕ, zero, suc, ◌+◌, ◌-◌, ◌*◌, ◌%◌, ◌<◌, ◌≤◌, Bool, true, false, cond, ◌≢◌, ◌⊎◌, sym, refl, ap, ◌∙◌, subst, inl, inr, le_refl, not-suc-le-zero, mod-eq_of_lt, arith}
 use native.Mathlib.Nat.{le_step}
-use Rattle.std.proofs.lemmas.Bool.{cases_eq, both_ways}
+use Rattle.std.proofs.lemmas.Bool.{both_ways}
 use Rattle.kinds.specs.Group.{Group}
 use Rattle.code.specs.Rules.{Blocks, Codeword, Agree}
 use Rattle.code.specs.Rebuilt.{absentees, Without, RebuildsPair, Rebuilds, Free, Hidden, Stands}
+use Rattle.code.proofs.Primes.{upto}
 use Rattle.code.proofs.Walk.{Walk, walk}
 use Rattle.code.proofs.Rows.{ordered, neighbourhood_none, diagonal_none}
 use Rattle.code.proofs.Only.{only_one}
@@ -26,10 +27,6 @@ pub record Pair (absent : ℕ → Bool) (n : ℕ) : Type 0 where
 counted : (b : Bool) → ((b ≡ true) × (◌≡◌ {A = ℕ} (cond b 1 0) 1)) ⊎ ((b ≡ false) × (◌≡◌ {A = ℕ} (cond b 1 0) 0))
 counted true = inl (refl, refl)
 counted false = inr (refl, refl)
-
--- what holds below n and at n holds below n + 1
-upto : (P : ℕ → Type 0) (n : ℕ) → ((k : ℕ) → k < n → P k) → P n → (k : ℕ) → k < suc n → P k
-upto P n h p k l = elim (cases_eq k n) [ inl e ↦ subst P (sym e) p | inr e ↦ h k (omega arith) ]
 
 -- where the count is 0, 1 or 2
 pub none_absent : (absent : ℕ → Bool) (n : ℕ) → absentees absent n ≡ 0 → (k : ℕ) → k < n → absent k ≡ false

@@ -8,19 +8,23 @@ pub struct Marks {
     ghost narrow: { bits < 2 ^ 32 },
 }
 
-impl Marks {
-    pub fn from_bits(bits: u32) -> Self
-        ensures { result.bits ≡ bits }
-    {
+impl From<u32> for Marks {
+    ghost from_gives = { λ bits marks. marks.bits ≡ bits };
+
+    fn from(bits: u32) -> Marks {
         Marks { bits }
     }
+}
 
-    pub fn bits(self) -> u32
-        ensures { result ≡ self.bits }
-    {
-        self.bits
+impl From<Marks> for u32 {
+    ghost from_gives = { λ marks bits. bits ≡ marks.bits };
+
+    fn from(marks: Marks) -> u32 {
+        marks.bits
     }
+}
 
+impl Marks {
     // The empty set.
     pub fn none() -> Self
         ensures { (s : ℕ) → marked result.bits s ≡ false }
@@ -43,6 +47,6 @@ impl Marks {
         if s >= 32 || self.has(s) == on {
             return self;
         }
-        Marks::from_bits(self.bits ^ (1 << s))
+        Marks::from(self.bits ^ (1 << s))
     }
 }

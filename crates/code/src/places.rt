@@ -2010,9 +2010,5 @@ pub fn place(a: u8, b: u8) -> usize
 pub fn pair_at(place: usize) -> Option<Pair>
     ensures { MatchOption result (496 ≤ place) (λ x. (place < 496) × PairAt place x) }
 {
-    if place < 496 {
-        Some(PAIRS[place])
-    } else {
-        None
-    }
+    PAIRS.get(place).copied()
 }

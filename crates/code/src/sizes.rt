@@ -1,6 +1,6 @@
 // Sizes: how many stations a book may have.
 ghost use Rattle.std.specs.Prelude.{◌≡◌, true, MatchResult};
-ghost use Rattle.code.specs.Sizes.{OddPrime, among, sizes as listed, pairs as pair_count};
+ghost use Rattle.code.specs.Sizes.{OddPrime, among, sizes as listed, pairs as pair_count, station_answer};
 ghost use Rattle.faults.specs.declared.faults.Fault.TheVariants.{NotASize};
 
 use faults::Fault;
@@ -12,24 +12,21 @@ pub struct Size {
     ghost allowed: { among number listed ≡ true },
 }
 
-fn is_listed(n: u8) -> bool
-    ensures { result ≡ among n listed }
-{
-    matches!(n, 3 | 5 | 7 | 11 | 13 | 17 | 19 | 23 | 29 | 31)
+impl TryFrom<u8> for Size {
+    type Error = Fault;
+
+    // Any other number is refused by 1 b.
+    ghost try_from_gives = { λ number size. MatchResult size (λ s. (s.number ≡ number) × OddPrime number) (λ f. (f ≡ NotASize number) × (OddPrime number → ⊥)) };
+
+    fn try_from(number: u8) -> Result<Self, Fault> {
+        match number {
+            3 | 5 | 7 | 11 | 13 | 17 | 19 | 23 | 29 | 31 => Ok(Size { number }),
+            _ => Err(Fault::NotASize(number)),
+        }
+    }
 }
 
 impl Size {
-    // Refused by 1 b.
-    pub fn new(number: u8) -> Result<Self, Fault>
-        ensures { MatchResult result (λ s. (s.number ≡ number) × OddPrime number) (λ f. (f ≡ NotASize number) × (OddPrime number → ⊥)) }
-    {
-        if is_listed(number) {
-            Ok(Size { number })
-        } else {
-            Err(Fault::NotASize(number))
-        }
-    }
-
     pub fn number(self) -> u8
         ensures same { result ≡ self.number }
         ensures prime { OddPrime result }
@@ -43,5 +40,16 @@ impl Size {
     {
         let n = usize::from(self.number);
         n * (n + 1) / 2
+    }
+
+    // A number that is no station's is refused by 4 s.
+    pub fn admit(self, s: u8) -> Result<(), Fault>
+        ensures { result ≡ station_answer self.number s }
+    {
+        if s < self.number {
+            Ok(())
+        } else {
+            Err(Fault::NoSuchStation(s))
+        }
     }
 }

@@ -1,11 +1,12 @@
 // Refusals. Each case has a number, the layer it began in and a place; upper layers pass a fault on whole.
-ghost use Rattle.std.specs.Prelude.{◌≡◌, Some};
-ghost use Rattle.faults.specs.Faults.{number_of, layer_of, place_of, letter_of, same_fault, same_fault_laws, written};
+ghost use Rattle.std.specs.Prelude.{◌≡◌, Some, Decides};
+ghost use Rattle.std.specs.Cmp.{IsPartialEquivalence};
+ghost use Rattle.faults.specs.Faults.{number_of, layer_of, place_of, letter_of, same_fault, written};
 
 use std::fmt;
 
 // The layer in which a fault began.
-#[derive(Clone, Copy)]
+#[derive(Clone, Copy, Debug, PartialEq, Eq)]
 pub enum Layer {
     Record,
     Book,
@@ -26,7 +27,7 @@ impl Layer {
 }
 
 // One case for each refusal; where one number comes from two layers, there are two cases.
-#[derive(Clone, Copy)]
+#[derive(Clone, Copy, PartialEq, Eq)]
 pub enum Fault {
     // 1 b: the number is not a size
     NotASize(u8),
@@ -82,10 +83,8 @@ impl Fault {
             Fault::AreaTooShort(_) => 3,
             Fault::NoSuchStation(_) => 4,
             Fault::CheckPair(_) => 5,
-            Fault::AlreadyAbsent(_) => 6,
-            Fault::AlreadyOut(_) => 6,
-            Fault::NotOut(_) => 7,
-            Fault::AlreadyIn(_) => 7,
+            Fault::AlreadyAbsent(_) | Fault::AlreadyOut(_) => 6,
+            Fault::NotOut(_) | Fault::AlreadyIn(_) => 7,
             Fault::FillingUnderWay(_) => 8,
             Fault::TooManyAbsent(_) => 9,
             Fault::TicketRefused(_) => 10,
@@ -105,17 +104,17 @@ impl Fault {
         ensures { result ≡ layer_of self }
     {
         match self {
-            Fault::NoSuchStation(_) => Layer::Store,
-            Fault::AlreadyOut(_) => Layer::Store,
-            Fault::AlreadyIn(_) => Layer::Store,
-            Fault::StationOut(_) => Layer::Store,
-            Fault::WrongLength(_) => Layer::Record,
-            Fault::WrongVersion(_) => Layer::Record,
-            Fault::StrayMarks => Layer::Record,
-            Fault::CutShort(_) => Layer::Record,
-            Fault::UnknownLetter(_) => Layer::Record,
-            Fault::WrongRecordLength(_) => Layer::Record,
-            Fault::SessionTooLong => Layer::Record,
+            Fault::NoSuchStation(_)
+            | Fault::AlreadyOut(_)
+            | Fault::AlreadyIn(_)
+            | Fault::StationOut(_) => Layer::Store,
+            Fault::WrongLength(_)
+            | Fault::WrongVersion(_)
+            | Fault::StrayMarks
+            | Fault::CutShort(_)
+            | Fault::UnknownLetter(_)
+            | Fault::WrongRecordLength(_)
+            | Fault::SessionTooLong => Layer::Record,
             _ => Layer::Book,
         }
     }
@@ -124,28 +123,36 @@ impl Fault {
         ensures { result ≡ place_of self }
     {
         match self {
-            Fault::NotASize(n) => usize::from(n),
-            Fault::OutAtOpen(s) => usize::from(s),
-            Fault::AreaTooShort(len) => len,
-            Fault::NoSuchStation(s) => usize::from(s),
-            Fault::CheckPair(s) => usize::from(s),
-            Fault::AlreadyAbsent(s) => usize::from(s),
-            Fault::AlreadyOut(s) => usize::from(s),
-            Fault::NotOut(s) => usize::from(s),
-            Fault::AlreadyIn(s) => usize::from(s),
-            Fault::FillingUnderWay(s) => usize::from(s),
-            Fault::TooManyAbsent(count) => usize::from(count),
-            Fault::TicketRefused(s) => usize::from(s),
-            Fault::StationOut(s) => usize::from(s),
-            Fault::AbsentAtAudit(s) => usize::from(s),
-            Fault::WrongLength(len) => len,
-            Fault::WrongVersion(at) => at,
+            Fault::NotASize(place)
+            | Fault::OutAtOpen(place)
+            | Fault::NoSuchStation(place)
+            | Fault::CheckPair(place)
+            | Fault::AlreadyAbsent(place)
+            | Fault::AlreadyOut(place)
+            | Fault::NotOut(place)
+            | Fault::AlreadyIn(place)
+            | Fault::FillingUnderWay(place)
+            | Fault::TooManyAbsent(place)
+            | Fault::TicketRefused(place)
+            | Fault::StationOut(place)
+            | Fault::AbsentAtAudit(place) => usize::from(place),
+            Fault::AreaTooShort(len) | Fault::WrongLength(len) => len,
+            Fault::WrongVersion(at)
+            | Fault::CutShort(at)
+            | Fault::UnknownLetter(at)
+            | Fault::WrongRecordLength(at) => at,
             Fault::StrayMarks => 6,
-            Fault::CutShort(at) => at,
-            Fault::UnknownLetter(at) => at,
-            Fault::WrongRecordLength(at) => at,
             Fault::SessionTooLong => 16384,
         }
+    }
+
+    // Whether they say the same, which no two different faults do.
+    pub fn says_the_same(self, other: Fault) -> bool
+        ensures says { result ≡ same_fault self other }
+        ensures same { Decides result (self ≡ other) }
+        ensures laws { IsPartialEquivalence same_fault }
+    {
+        self == other
     }
 }
 
@@ -161,21 +168,9 @@ impl fmt::Display for Fault {
     }
 }
 
+// By hand: a fault is printed in this form only, and a derived `Debug` would write the case's name.
 impl fmt::Debug for Fault {
     fn fmt<W: fmt::Write>(&self, f: &mut fmt::Formatter<W>) -> fmt::Result {
         fmt::Display::fmt(self, f)
-    }
-}
-
-// Faults are the same where they say the same.
-impl PartialEq for Fault {
-    ghost eq = { λ f g. same_fault f g };
-
-    ghost laws = { same_fault_laws };
-
-    fn eq(&self, other: &Fault) -> bool {
-        self.number() == other.number()
-            && self.layer().letter() == other.layer().letter()
-            && self.place() == other.place()
     }
 }

@@ -1,9 +1,9 @@
 -- The single bit as a block kind, summed by exclusive or.
-use Rattle.std.specs.Prelude.{◌≡◌, Bool, true, false, cond, not, refl}
+use Rattle.std.specs.Prelude.{◌≡◌, Bool, true, false, if◌then◌else◌, not, refl}
 use Rattle.kinds.specs.Group.{Group}
 
 abbrev pub differ : Bool → Bool → Bool
-differ a b = cond a (not b) b
+differ a b = if a then not b else b
 
 pub bit_assoc : (x y z : Bool) → differ (differ x y) z ≡ differ x (differ y z)
 bit_assoc true true true = refl

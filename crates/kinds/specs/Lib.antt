@@ -1,3 +1,4 @@
 pub mod Group
 pub mod Bytes
 pub mod Bits
+pub mod Texts

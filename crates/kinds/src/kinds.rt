@@ -12,6 +12,7 @@ pub trait BlockKind: Copy {
     fn add(self, other: Self) -> Self
         ensures { result ≡ group.sum self other };
 
+    // Decides equality; the `==` of `Eq` need only be some equivalence.
     fn same(self, other: Self) -> bool
         ensures { Decides result (self ≡ other) };
 }

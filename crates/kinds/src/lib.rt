@@ -4,6 +4,7 @@
 pub mod bits;
 pub mod blocks;
 pub mod kinds;
+pub mod texts;
 pub mod xor;
 
 pub use blocks::Block;

@@ -1,11 +1,7 @@
-use Rattle.std.proofs.Common.{◌/◌, ◌^◌, eqb, sym, ap, ◌∙◌}
-use Rattle.std.proofs.lemmas.Nat.{and_mask}
+use Rattle.std.proofs.Common.{sym, ◌∙◌}
 use Rattle.std.proofs.lemmas.Bool.{le-ltb}
 use Rattle.code.proofs.Toggle.{unmarked}
 use Rattle.code.proofs.marks.Marks.has.Goals as goal
-
-pub returns-then-s-lt32 : goal.returns-then-s-lt32
-returns-then-s-lt32 c = ap (λ q. eqb q 1) (and_mask (c.args.self.bits / 2 ^ c.args.s) 1)
 
 pub returns-else-s-lt32 : goal.returns-else-s-lt32
 returns-else-s-lt32 c =

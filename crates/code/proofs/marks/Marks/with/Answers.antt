@@ -1,4 +1,4 @@
-use Rattle.std.proofs.Common.{◌≡◌, ◌/◌, ◌^◌, ◌<◌, Bool, true, false, not, sym, refl, ap, ◌∙◌, ap₂, arith}
+use Rattle.std.proofs.Common.{◌≡◌, ◌/◌, ◌^◌, Bool, true, false, not, sym, refl, ap, ◌∙◌, ap₂, arith}
 use mathlib.Core.Bool.{beq}
 use native.Mathlib.Nat.{div-eq_of_lt}
 use lib.Bits.{bit_xor}
@@ -14,17 +14,14 @@ flips false true e = refl
 flips true true e = sym e
 flips false false e = e
 
-pub returns : goal.returns
-returns c =
+pub returns-clause-marks : goal.returns-clause-marks
+returns-clause-marks c l k =
     let turned : not (marked c.args.self.bits c.args.s) ≡ c.args.on = ap not (sym c.has.ensures) ∙ flips c.has.result c.args.on c.if-has-on.false in
-    record {
-      marks = λ l k.
-          ap (λ q. marked q k) (c.from_bits.ensures ∙ ap (bit_xor c.args.self.bits) (one_shl c.args.s 32 l))
-          ∙ toggled c.args.self.bits c.args.s k
-          ∙ grind (arith, nat_tests);
-      low = λ n l e.
-          let w : c.args.s < 32 = c.if-s-ge32.false in
-          ap (λ q. q / 2 ^ n) (c.from_bits.ensures ∙ ap (bit_xor c.args.self.bits) (one_shl c.args.s 32 w))
-          ∙ xor_shr c.args.self.bits (2 ^ c.args.s) n ∙ ap₂ bit_xor e (div-eq_of_lt (pow_below c.args.s n l));
-      same = λ l. let m = c.if-s-ge32.false in absurd (omega arith);
-    }
+    ap (λ q. marked q k) (c.from.ensures ∙ ap (bit_xor c.args.self.bits) (one_shl c.args.s 32 l))
+    ∙ toggled c.args.self.bits c.args.s k
+    ∙ grind (arith, nat_tests)
+
+pub returns-clause-low : goal.returns-clause-low
+returns-clause-low c n l e =
+    ap (λ q. q / 2 ^ n) (c.from.ensures ∙ ap (bit_xor c.args.self.bits) (one_shl c.args.s 32 c.if-s-ge32.false))
+    ∙ xor_shr c.args.self.bits (2 ^ c.args.s) n ∙ ap₂ bit_xor e (div-eq_of_lt (pow_below c.args.s n l))
