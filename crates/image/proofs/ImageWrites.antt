@@ -1,5 +1,5 @@
 -- What writes to an image's bytes do to what they mean.
-use Rattle.std.proofs.Common.{◌≡◌, ℕ, ◌+◌, ◌*◌, ◌/◌, ◌%◌, ◌^◌, ◌<◌, ◌≤◌, min, max, true, false, ◌≢◌, ◌⊎◌, List, [], ◌∷◌, length, get_or, replicate, is_ok, sym, refl, ap, ◌∙◌, subst, inl, inr, mod-eq_of_lt, arith, lit<, rules}
+use Rattle.std.proofs.Common.{◌≡◌, ℕ, ◌+◌, ◌*◌, ◌/◌, ◌%◌, ◌^◌, ◌<◌, ◌≤◌, min, max, true, false, ◌≢◌, ◌⊎◌, List, length, get_or, replicate, sym, refl, ap, ◌∙◌, subst, subst₂, inl, inr, mod-eq_of_lt, arith, lit<, rules}
 use borrow.Rule.Slice.PartMut.{put_mid}
 use Rattle.std.proofs.lemmas.Nat.{shr-shr, div-add-mod', div_below}
 use Rattle.std.proofs.lemmas.List.{places, get_or-replicate}
@@ -9,9 +9,11 @@ use Rattle.code.specs.Marks.{marked, Marked}
 use Rattle.code.specs.Places.{pair_place}
 use Rattle.kinds.specs.declared.blocks.Block.{Block}
 use Rattle.code.proofs.Table.{place_only}
-use Rattle.image.specs.Images.{image_check, image_size, image_marks, image_meaning, part, block_offset, block_at, Overwritten, Filled, TakenOut, BroughtIn}
+use Rattle.image.specs.Images.{image_size, image_marks, image_meaning, part, block_offset, block_at, Overwritten, Filled, TakenOut, BroughtIn, IsImage, be_bytes}
 use Rattle.store.specs.Meaning.{Written, Remarked}
-use Rattle.image.proofs.ImageBytes.{part_same, part_is, checked, passes, still_checked}
+use Rattle.image.proofs.ImageBytes.{part_same, part_is}
+use Rattle.store.specs.declared.rolls.Roll.{Roll}
+use Rattle.store.specs.Rolls.{Turned}
 use Rattle.store.proofs.TableRows.{place_ordered}
 
 -- a copy into a part of the bytes
@@ -53,10 +55,6 @@ filled_more bs bs₁ bs₂ s k f o = record {
     meets : (a b s k : ℕ) → a ≢ s → b ≢ s → max a b ≡ max s k → min a b ≡ min s k → ⊥
     meets a b s k da db p q = omega arith
 
--- four bytes, big_endian
-abbrev pub be_bytes : ℕ → List ℕ
-be_bytes v = (v / 16777216 % 256) ∷ (v / 65536 % 256) ∷ (v / 256 % 256) ∷ (v % 256) ∷ []
-
 pub marks_laid : (bs bs' : List ℕ) (v : ℕ) → v < 2 ^ 32 → Overwritten bs 6 (be_bytes v) bs' → image_marks bs' ≡ v
 marks_laid bs bs' v l o =
     let a : v / 256 * 256 + v % 256 ≡ v = div-add-mod' v 256 in
@@ -66,24 +64,29 @@ marks_laid bs bs' v l o =
     omega (arith, o.inside 0 (lit< tt), o.inside 1 (lit< tt), o.inside 2 (lit< tt), o.inside 3 (lit< tt))
 
 -- marks written after the blocks of s were filled
-pub taken_out : (bs bs₁ bs₂ : List ℕ) (s v : ℕ) → v < 2 ^ 32 → Filled bs s (image_size bs) bs₁ → Overwritten bs₁ 6 (be_bytes v) bs₂ → Marked (image_marks bs) s true v → v / 2 ^ image_size bs ≡ 0 → TakenOut bs s bs₂
-taken_out bs bs₁ bs₂ s v l f o m z = record {
-  long = o.long ∙ f.long;
-  header = λ k lk. o.outside k (inl lk) ∙ f.header k (omega arith);
-  marks = subst (Marked (image_marks bs) s true) (sym (marks_laid bs₁ bs₂ v l o)) m;
-  low = ap (λ k. k / 2 ^ image_size bs) (marks_laid bs₁ bs₂ v l o) ∙ z;
-  lost = λ t j lt lj. o.outside (block_offset s t + j) (inr (omega arith)) ∙ f.lost t j lt lj;
-  others = λ a b j da db lj. o.outside (block_offset a b + j) (inr (omega arith)) ∙ f.others a b j da db lj;
-}
+pub taken_out : (bs bs₁ bs₂ : List ℕ) (r r' : Roll) (s : ℕ) → IsImage bs → r.size.number ≡ image_size bs → r.out.bits ≡ image_marks bs → Turned r s true r' → Filled bs s r'.size.number bs₁ → Overwritten bs₁ 6 (be_bytes r'.out.bits) bs₂ → TakenOut bs s bs₂
+taken_out bs bs₁ bs₂ r r' s im en em t f o =
+    let m = marks_laid bs₁ bs₂ r'.out.bits r'.out.narrow o in
+    let n : r'.size.number ≡ image_size bs = ap (λ z. z.number) t.size ∙ en in
+    record {
+      long = o.long ∙ f.long;
+      header = λ k lk. o.outside k (inl lk) ∙ f.header k (omega arith);
+      marks = subst₂ (λ x y. Marked x s true y) em (sym m) t.out;
+      low = rw (m, ← en) (t.low (rw (em, en) im.marks));
+      lost = λ t j lt lj. o.outside (block_offset s t + j) (inr (omega arith)) ∙ f.lost t j (omega arith) lj;
+      others = λ a b j da db lj. o.outside (block_offset a b + j) (inr (omega arith)) ∙ f.others a b j da db lj;
+    }
 
-pub brought_in : (bs bs' : List ℕ) (s v : ℕ) → v < 2 ^ 32 → Overwritten bs 6 (be_bytes v) bs' → Marked (image_marks bs) s false v → v / 2 ^ image_size bs ≡ 0 → BroughtIn bs s bs'
-brought_in bs bs' s v l o m z = record {
-  long = o.long;
-  header = λ k lk. o.outside k (inl lk);
-  marks = subst (Marked (image_marks bs) s false) (sym (marks_laid bs bs' v l o)) m;
-  low = ap (λ k. k / 2 ^ image_size bs) (marks_laid bs bs' v l o) ∙ z;
-  others = λ k lk. o.outside k (inr lk);
-}
+pub brought_in : (bs bs' : List ℕ) (r r' : Roll) (s : ℕ) → IsImage bs → r.size.number ≡ image_size bs → r.out.bits ≡ image_marks bs → Turned r s false r' → Overwritten bs 6 (be_bytes r'.out.bits) bs' → BroughtIn bs s bs'
+brought_in bs bs' r r' s im en em t o =
+    let m = marks_laid bs bs' r'.out.bits r'.out.narrow o in
+    record {
+      long = o.long;
+      header = λ k lk. o.outside k (inl lk);
+      marks = subst₂ (λ x y. Marked x s false y) em (sym m) t.out;
+      low = rw (m, ← en) (t.low (rw (em, en) im.marks));
+      others = λ k lk. o.outside k (inr lk);
+    }
 
 -- what the bytes mean after a put
 module _ (bs bs' : List ℕ) where
@@ -125,20 +128,3 @@ module _ (bs bs' : List ℕ) where
     out = λ k _. t.marks k;
     others = λ p q _ _ _ _. blocks_same (block_offset (max p q) (min p q)) (λ j l. t.others (block_offset (max p q) (min p q) + j) (omega arith));
   }
-
-  -- a sound image stays sound
-  module _ (sound : is_ok (image_check bs) ≡ true) where
-    high_bits : image_size bs' ≡ image_size bs → image_marks bs' / 2 ^ image_size bs ≡ 0 → image_marks bs' / 2 ^ image_size bs' ≡ 0
-    high_bits e z = ap (λ n. image_marks bs' / 2 ^ n) e ∙ z
-
-    pub put_sound : (a b : ℕ) (x : Block) → Overwritten bs (block_offset a b) x.bytes bs' → is_ok (image_check bs') ≡ true
-    put_sound a b x o =
-        let h : (k : ℕ) → k < 10 → get_or bs' k 0 ≡ get_or bs k 0 = λ k l. o.outside k (inl (omega arith)) in
-        passes bs' (still_checked bs bs' (checked bs sound) o.long (λ k l. h k (omega arith))
-        (high_bits (h 5 (lit< tt)) (ap (λ m. m / 2 ^ image_size bs) (marks_same h) ∙ (checked bs sound).marks)))
-
-    pub take_sound : (s : ℕ) → TakenOut bs s bs' → is_ok (image_check bs') ≡ true
-    take_sound s t = passes bs' (still_checked bs bs' (checked bs sound) t.long t.header (high_bits (t.header 5 (lit< tt)) t.low))
-
-    pub bring_sound : (s : ℕ) → BroughtIn bs s bs' → is_ok (image_check bs') ≡ true
-    bring_sound s t = passes bs' (still_checked bs bs' (checked bs sound) t.long t.header (high_bits (t.header 5 (lit< tt)) t.low))

@@ -4,7 +4,7 @@
 --   5      the size n
 --   6 to 9 the marks, big_endian: the bit of weight 2^s is set where station s is out
 --   10 on  N blocks of 64 bytes
-use Rattle.std.specs.Prelude.{◌≡◌, ℕ, zero, suc, ◌+◌, ◌*◌, ◌/◌, ◌^◌, ◌<◌, ◌≤◌, true, false, cond, ◌&&◌, ◌||◌, ◌≢◌, ◌⊎◌, List, [], ◌∷◌, length, take, Ok, Err, Result, ◌==◌, nat_le, nat_lt, slice_index, refl}
+use Rattle.std.specs.Prelude.{◌≡◌, ℕ, zero, suc, ◌+◌, ◌*◌, ◌/◌, ◌%◌, ◌^◌, ◌<◌, ◌≤◌, true, false, cond, ◌&&◌, ◌||◌, ◌≢◌, ◌⊎◌, List, [], ◌∷◌, length, take, Ok, Err, Result, ◌==◌, nat_le, nat_lt, slice_index, is_ok, ◌↔◌, refl}
 use Rattle.std.proofs.Common.{ap}
 use Rattle.std.specs.Borrow.{Bor}
 use Rattle.code.specs.Marks.{marked, Marked}
@@ -18,6 +18,10 @@ use Rattle.store.specs.Meaning.{Meaning, After, get_answer, take_out_answer, bri
 -- four bytes from k on, big_endian
 abbrev pub big_endian : List ℕ → ℕ → ℕ
 big_endian bs k = slice_index bs k * 16777216 + slice_index bs (k + 1) * 65536 + slice_index bs (k + 2) * 256 + slice_index bs (k + 3)
+
+-- four bytes of a number, big_endian
+abbrev pub be_bytes : ℕ → List ℕ
+be_bytes v = (v / 16777216 % 256) ∷ (v / 65536 % 256) ∷ (v / 256 % 256) ∷ (v % 256) ∷ []
 
 abbrev pub image_version : List ℕ → ℕ
 image_version bs = slice_index bs 0
@@ -40,6 +44,19 @@ image_check bs =
     (Err (WrongLength (length bs))))
     (Err (NotASize (image_size bs))))
     (Err (WrongVersion 0)))
+
+-- what bytes that pass the check have, and no others
+pub record IsImage (bs : List ℕ) : Type 0 where
+  pub ten : 10 ≤ length bs
+  pub version : image_version bs ≡ 1
+  pub listed : among (image_size bs) sizes ≡ true
+  pub field : big_endian bs 1 ≡ 5 + 64 * pairs (image_size bs)
+  pub long : length bs ≡ 10 + 64 * pairs (image_size bs)
+  pub marks : image_marks bs / 2 ^ image_size bs ≡ 0
+
+-- the check passes just these
+abbrev pub PassesImages : Type 0
+PassesImages = (bs : List ℕ) → (is_ok (image_check bs) ≡ true) ↔ IsImage bs
 
 -- k bytes from i on, 0 where there is none
 unfoldable pub part : List ℕ → ℕ → ℕ → List ℕ

@@ -1,27 +1,55 @@
 // The image for reading: a store over borrowed bytes.
-ghost use Rattle.std.specs.Prelude.{◌≡◌, true, is_ok};
-ghost use Rattle.image.specs.Images.{image_check, image_meaning, Shown};
+ghost use Rattle.std.specs.Prelude.{◌≡◌, ◌<◌, true, is_ok};
+ghost use Rattle.code.specs.Places.{pair_place};
+ghost use Rattle.code.specs.Sizes.{pairs as pair_count};
+ghost use Rattle.image.specs.Images.{image_check, image_size, image_marks, image_meaning, block_offset, part, IsImage, PassesImages, Shown};
 
-use crate::layout::{get_from_image, is_in_image, marks_in, part_in, size_in};
-use code::{Size, place};
+use crate::layout::{Header, offset_of};
+use code::{Marks, Size};
 use faults::Fault;
 use kinds::Block;
-use store::ReadStore;
+use store::{ReadStore, Roll};
 
 // An image held for reading only.
 #[derive(Clone, Copy)]
 pub struct ReadImage<'a> {
-    bytes: &'a [u8],
-    ghost sound: { is_ok (image_check bytes.now) ≡ true },
+    pub(crate) bytes: &'a [u8],
+    ghost sound: { IsImage bytes.now },
 }
 
 impl<'a> ReadImage<'a> {
     // Of bytes that `check_image` passed.
     pub fn make(bytes: &'a [u8]) -> Self
         requires { is_ok (image_check bytes.now) ≡ true }
-        ensures { result.bytes.now ≡ bytes.now }
+        ensures bytes { result.bytes.now ≡ bytes.now }
+        ensures images { PassesImages }
     {
         ReadImage { bytes }
+    }
+
+    // The stations.
+    pub(crate) fn roll(&self) -> Roll
+        ensures size { result.size.number ≡ image_size self.now.bytes.now }
+        ensures out { result.out.bits ≡ image_marks self.now.bytes.now }
+    {
+        let Some(header) = Header::read(self.bytes) else {
+            unreachable!();
+        };
+        let Ok(size) = Size::try_from(header.number) else {
+            unreachable!();
+        };
+        Roll {
+            size,
+            out: Marks::from(header.marks),
+        }
+    }
+
+    // The 64 bytes of a pair.
+    fn pair(&self, a: u8, b: u8) -> &'a [u8; 64]
+        requires { pair_place a b < pair_count (image_size self.now.bytes.now) }
+        ensures { result.now ≡ part self.now.bytes.now (block_offset a b) 64 }
+    {
+        self.bytes[offset_of(a, b)..].first_chunk().unwrap()
     }
 
     // The pair's 64 bytes: the image's own part if both stations are in, else the first 64 of the second area, where the
@@ -32,18 +60,13 @@ impl<'a> ReadImage<'a> {
         if second.len() < 64 {
             return Err(Fault::AreaTooShort(second.len()));
         }
-        let n = size_in(self.bytes).number();
-        if a >= n {
-            return Err(Fault::NoSuchStation(a));
+        let roll = self.roll();
+        let (a_in, b_in) = (roll.is_in(a)?, roll.is_in(b)?);
+        if a_in && b_in {
+            Ok(self.pair(a, b))
+        } else {
+            Ok(&second[..64])
         }
-        if b >= n {
-            return Err(Fault::NoSuchStation(b));
-        }
-        let out = marks_in(self.bytes);
-        if out.has(a) || out.has(b) {
-            return Ok(&second[0..64]);
-        }
-        Ok(part_in(self.bytes, 10 + 64 * place(a, b)))
     }
 }
 
@@ -53,14 +76,16 @@ impl ReadStore for ReadImage<'_> {
     ghost means = { λ v. image_meaning v.bytes.now };
 
     fn size(&self) -> Size {
-        size_in(self.bytes)
+        self.roll().size
     }
 
     fn is_in(&self, s: u8) -> Result<bool, Fault> {
-        is_in_image(self.bytes, s)
+        self.roll().is_in(s)
     }
 
     fn get(&self, a: u8, b: u8, into: &mut Block) -> Result<(), Fault> {
-        get_from_image(self.bytes, a, b, into)
+        self.roll().admit_pair(a, b)?;
+        *into = Block::from(*self.pair(a, b));
+        Ok(())
     }
 }

@@ -1,2 +1,4 @@
 pub mod Meaning
+pub mod Standing
 pub mod Tables
+pub mod Rolls

@@ -1,5 +1,5 @@
 -- What a store means, and what its calls answer.
-use Rattle.std.specs.Prelude.{◌≡◌, ℕ, zero, suc, ◌<◌, min, max, Bool, true, false, cond, ◌||◌, ◌≢◌, Some, None, Ok, Err, Option, Result, ◌==◌, nat_le}
+use Rattle.std.specs.Prelude.{◌≡◌, ℕ, zero, suc, ◌<◌, ◌≤◌, min, max, Bool, true, false, cond, ◌||◌, ◌≢◌, Some, None, Ok, Err, Option, Result, ◌==◌, nat_le, nat_lt, ◌&&◌}
 use Rattle.code.specs.Marks.{marked}
 use Rattle.code.specs.Rules.{Blocks, of}
 use Rattle.faults.specs.declared.faults.Fault.{Fault}
@@ -11,13 +11,28 @@ pub record Meaning (B : Type 0) : Type 0 where
   pub out : ℕ → Bool
   pub block : Blocks B
 
+-- no station is out
+abbrev pub AllIn : {B : Type 0} → Meaning B → Type 0
+AllIn m = (s : ℕ) → s < m.size → m.out s ≡ false
+
 -- out, or in a set of other stations
 abbrev pub absent_of : {B : Type 0} → Meaning B → ℕ → ℕ → Bool
 absent_of m also s = m.out s || marked also s
 
+-- may the blocks of station s be used?
+abbrev pub present_answer : (ℕ → Bool) → ℕ → Result (Unit {0}) Fault
+present_answer out s = cond (out s) (Err (StationOut s)) (Ok tt)
+
 -- is s in?
+abbrev pub mark_answer : ℕ → (ℕ → Bool) → ℕ → Result Bool Fault
+mark_answer n out s = cond (nat_le n s) (Err (NoSuchStation s)) (Ok (cond (out s) false true))
+
 abbrev pub in_answer : {B : Type 0} → Meaning B → ℕ → Result Bool Fault
-in_answer m s = cond (nat_le m.size s) (Err (NoSuchStation s)) (Ok (cond (m.out s) false true))
+in_answer m s = mark_answer m.size m.out s
+
+-- is s out? A number of n or more is none that is out
+abbrev pub is_out_of : {B : Type 0} → Meaning B → ℕ → Bool
+is_out_of m s = nat_lt s m.size && m.out s
 
 -- may the pair of a and b be got or put? The first number of n or more, then the smaller station that is out
 abbrev pub pair_answer : ℕ → (ℕ → Bool) → ℕ → ℕ → Result (Unit {0}) Fault
@@ -60,6 +75,18 @@ pub record Remarked {B : Type 0} (m : Meaning B) (s : ℕ) (b : Bool) (m' : Mean
 abbrev pub After : {X : Type 0} → Result X Fault → Type 0 → Type 0 → Type 0
 After (Ok x) did same = did
 After (Err e) did same = same
+
+-- what put leaves, and what take out and bring in leave, with what they answered
+abbrev pub AfterPut : {B : Type 0} → Meaning B → ℕ → ℕ → B → Result (Unit {0}) Fault → Meaning B → Type 0
+AfterPut m a b x r m' = After r (Written m a b x m') (m' ≡ m)
+
+abbrev pub AfterMark : {B : Type 0} → Meaning B → ℕ → Bool → Result (Unit {0}) Fault → Meaning B → Type 0
+AfterMark m s b r m' = After r (Remarked m s b m') (m' ≡ m)
+
+-- a search of the stations of n that are out, from start on: the first that it comes to, or none
+abbrev pub Next : (ℕ → Bool) → ℕ → ℕ → Option ℕ → Type 0
+Next out n start None = (k : ℕ) → start ≤ k → k < n → out k ≡ false
+Next out n start (Some s) = (start ≤ s) × (s < n) × (out s ≡ true) × ((k : ℕ) → start ≤ k → k < s → out k ≡ false)
 
 -- the smallest number below n that passes
 abbrev pub first : (ℕ → Bool) → ℕ → Option ℕ

@@ -1,9 +1,10 @@
 // The table: a store for writing over a borrowed row of blocks of any kind.
-ghost use Rattle.std.specs.Prelude.{◌≡◌, ◌<◌, ◌≤◌, true, false, cond, length, is_ok, slice_index_or, slice_set};
+ghost use Rattle.std.specs.Prelude.{◌≡◌, ◌<◌, ◌≤◌, true, false, length, is_ok, slice_index_or, slice_set};
 ghost use Rattle.code.specs.Sizes.{pairs as pair_count};
+ghost use Rattle.store.specs.Meaning.{AfterPut, AfterMark, get_answer, take_out_answer, bring_in_answer};
 ghost use Rattle.store.specs.Tables.{table_check, table_meaning};
 
-use crate::refusals::{admit_in, admit_out, admit_pair};
+use crate::rolls::Roll;
 use crate::stores::{ReadStore, WriteStore};
 use code::{Marks, Size, place};
 use faults::Fault;
@@ -13,13 +14,14 @@ use kinds::BlockKind;
 pub fn check_table<B>(n: u8, row: &[B]) -> Result<(), Fault>
     ensures { result ≡ table_check n (length row.now) }
 {
-    let size = Size::new(n)?;
+    let size = Size::try_from(n)?;
     if row.len() < size.pairs() {
         return Err(Fault::AreaTooShort(row.len()));
     }
     Ok(())
 }
 
+// The table's methods hand its row on to these.
 fn read_at<B: Copy>(row: &[B], at: usize) -> B
     requires { at < length row.now }
     ensures { (d : B) → result ≡ slice_index_or row.now at d }
@@ -34,52 +36,30 @@ fn write_at<B: Copy>(row: &mut [B], at: usize, x: B)
     row[at] = x;
 }
 
-// The borrowed row.
-#[derive(Drop)]
-pub struct Row<'a, B> {
-    row: &'a mut [B],
-}
-
-impl<B: Copy> Row<'_, B> {
-    fn read(&self, at: usize) -> B
-        requires { at < length self.now.row.now }
-        ensures { (d : B) → result ≡ slice_index_or self.now.row.now at d }
-    {
-        read_at(self.row, at)
-    }
-
-    fn write(&mut self, at: usize, x: B)
-        requires { at < length self.old.row.now }
-        ensures { self.new.row.now ≡ slice_set self.old.row.now at x }
-    {
-        write_at(self.row, at, x)
-    }
-}
-
 // A table of blocks; all stations are in at first.
 #[derive(Drop)]
 pub struct Table<'a, B> {
-    size: Size,
-    out: Marks,
-    blocks: Row<'a, B>,
-    ghost long: { pair_count size.number ≤ length blocks.row.now },
+    roll: Roll,
+    row: &'a mut [B],
+    ghost long: { pair_count roll.size.number ≤ length row.now },
 }
 
 impl<'a, B: BlockKind> Table<'a, B> {
     // Of a number and a row that `check_table` passed.
     pub fn make(n: u8, row: &'a mut [B]) -> Self
         requires { is_ok (table_check n (length row.old)) ≡ true }
-        ensures size { result.size.number ≡ n }
-        ensures out { result.out.bits ≡ 0 }
-        ensures row { result.blocks.row.now ≡ row.old }
+        ensures size { result.roll.size.number ≡ n }
+        ensures out { result.roll.out.bits ≡ 0 }
+        ensures row { result.row.now ≡ row.old }
+        ensures lent { result.row.ghost_name ≡ row.entry.ghost_name }
     {
-        match Size::new(n) {
-            Ok(size) => Table {
-                size,
-                out: Marks::from_bits(0),
-                blocks: Row { row },
-            },
-            Err(_) => unreachable(),
+        let Ok(size) = Size::try_from(n) else {
+            unreachable!();
+        };
+        let out = Marks::from(0);
+        Table {
+            roll: Roll { size, out },
+            row,
         }
     }
 }
@@ -87,42 +67,47 @@ impl<'a, B: BlockKind> Table<'a, B> {
 impl<B: BlockKind> ReadStore for Table<'_, B> {
     type Block = B;
 
-    ghost means = { λ t. table_meaning B.group.none t.size.number t.out.bits t.blocks.row.now };
+    ghost means = { λ t. table_meaning B.group.none t.roll.size.number t.roll.out.bits t.row.now };
 
     fn size(&self) -> Size {
-        self.size
+        self.roll.size
     }
 
     fn is_in(&self, s: u8) -> Result<bool, Fault> {
-        if s >= self.size.number() {
-            return Err(Fault::NoSuchStation(s));
-        }
-        Ok(!self.out.has(s))
+        self.roll.is_in(s)
     }
 
     fn get(&self, a: u8, b: u8, into: &mut B) -> Result<(), Fault> {
-        admit_pair(self.size, self.out, a, b)?;
-        *into = self.blocks.read(place(a, b));
+        self.roll.admit_pair(a, b)?;
+        *into = read_at(self.row, place(a, b));
         Ok(())
     }
 }
 
 impl<B: BlockKind> WriteStore for Table<'_, B> {
-    fn put(&mut self, a: u8, b: u8, x: B) -> Result<(), Fault> {
-        admit_pair(self.size, self.out, a, b)?;
-        self.blocks.write(place(a, b), x);
+    fn put(&mut self, a: u8, b: u8, x: B) -> Result<(), Fault>
+        ensures answer { result ≡ get_answer (table_meaning B.group.none self.old.roll.size.number self.old.roll.out.bits self.old.row.now) a b }
+        ensures after { AfterPut (table_meaning B.group.none self.old.roll.size.number self.old.roll.out.bits self.old.row.now) a b x result (table_meaning B.group.none self.new.roll.size.number self.new.roll.out.bits self.new.row.now) }
+        ensures lent { self.new.row.ghost_name ≡ self.old.row.ghost_name }
+    {
+        self.roll.admit_pair(a, b)?;
+        write_at(self.row, place(a, b), x);
         Ok(())
     }
 
-    fn take_out(&mut self, s: u8) -> Result<(), Fault> {
-        admit_out(self.size, self.out, s)?;
-        self.out = self.out.with(s, true);
-        Ok(())
+    fn take_out(&mut self, s: u8) -> Result<(), Fault>
+        ensures answer { result ≡ take_out_answer (table_meaning B.group.none self.old.roll.size.number self.old.roll.out.bits self.old.row.now) s }
+        ensures after { AfterMark (table_meaning B.group.none self.old.roll.size.number self.old.roll.out.bits self.old.row.now) s true result (table_meaning B.group.none self.new.roll.size.number self.new.roll.out.bits self.new.row.now) }
+        ensures lent { self.new.row.ghost_name ≡ self.old.row.ghost_name }
+    {
+        self.roll.take_out(s)
     }
 
-    fn bring_in(&mut self, s: u8) -> Result<(), Fault> {
-        admit_in(self.size, self.out, s)?;
-        self.out = self.out.with(s, false);
-        Ok(())
+    fn bring_in(&mut self, s: u8) -> Result<(), Fault>
+        ensures answer { result ≡ bring_in_answer (table_meaning B.group.none self.old.roll.size.number self.old.roll.out.bits self.old.row.now) s }
+        ensures after { AfterMark (table_meaning B.group.none self.old.roll.size.number self.old.roll.out.bits self.old.row.now) s false result (table_meaning B.group.none self.new.roll.size.number self.new.roll.out.bits self.new.row.now) }
+        ensures lent { self.new.row.ghost_name ≡ self.old.row.ghost_name }
+    {
+        self.roll.bring_in(s)
     }
 }

@@ -1,21 +1,20 @@
-use Rattle.std.proofs.Common.{◌≡◌, ◌+◌, ◌*◌, ◌<◌, replicate, ap, subst, arith}
+use Rattle.std.proofs.Common.{◌≡◌, ◌<◌, replicate, subst, arith}
 use Rattle.code.specs.Places.{pair_place}
 use Rattle.code.specs.Sizes.{pairs}
 use Rattle.code.proofs.Table.{place_below}
 use Rattle.image.specs.Images.{Filled, Overwritten}
-use Rattle.image.proofs.ImageBytes.{checked}
 use Rattle.image.proofs.ImageWrites.{filled_more}
 use Rattle.image.proofs.images.fill_lost.Goals as goal
 
 pub overwrite-requires : goal.overwrite-requires
 overwrite-requires c =
     let p : pair_place c.args.s c.loop-t.t < pairs c.args.n = place_below c.args.n c.args.s c.loop-t.t c.requires.below c.loop-t-test.true in
-    omega (arith, c.place.ensures, (checked c.args.bytes.now c.requires.sound).long, ap pairs c.requires.sized, c.loop-t.invariant.long)
+    omega (arith, c.offset_of.ensures, c.loop-t.invariant.long)
 
 pub loop-t-preserved : goal.loop-t-preserved
 loop-t-preserved c =
     filled_more c.args.bytes.now c.loop-t.bytes c.overwrite.new.bytes c.args.s c.loop-t.t c.loop-t.invariant
-    (subst (λ p. Overwritten c.loop-t.bytes (10 + 64 * p) (replicate 64 238) c.overwrite.new.bytes) c.place.ensures c.overwrite.ensures)
+    (subst (λ p. Overwritten c.loop-t.bytes p (replicate 64 238) c.overwrite.new.bytes) c.offset_of.ensures c.overwrite.ensures)
 
 pub returns : goal.returns
 returns c =

@@ -1,7 +1,5 @@
-use Rattle.std.proofs.Common.{cond, ltb, length, Ok, Err, sym, ap, ◌∙◌}
+use Rattle.std.proofs.Common.{Err, ap, ◌∙◌}
 use Rattle.std.proofs.lemmas.Result.{err_from_is_err_and}
-use Rattle.code.specs.Sizes.{pairs}
-use Rattle.faults.specs.declared.faults.Fault.TheVariants.{NotASize, AreaTooShort}
 use Rattle.code.proofs.Primes.{unlisted}
 use Rattle.store.proofs.tables.check_table.Goals as goal
 
@@ -9,6 +7,4 @@ pub returns-in_err-size : goal.returns-in_err-size
 returns-in_err-size g c =
     let p = err_from_is_err_and c.from_residual.result c.from_residual.ensures.1 in
     let q = c.in_err-size.ensures in
-    let len = length c.args.row.now in
-    p.1 ∙ ap Err (p.2 ∙ q.0)
-    ∙ sym (ap (λ t. cond t (cond (ltb len (pairs c.args.n)) (Err (AreaTooShort len)) (Ok tt)) (Err (NotASize c.args.n))) (unlisted c.args.n q.1))
+    rw (unlisted c.args.n q.1) (p.1 ∙ ap Err (p.2 ∙ q.0))

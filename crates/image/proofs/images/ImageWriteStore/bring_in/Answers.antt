@@ -1,28 +1,23 @@
-use Rattle.std.proofs.Common.{◌≡◌, ℕ, true, false, List, is_ok, ap, ◌∙◌}
-use Rattle.image.specs.Images.{image_check, image_meaning, BroughtIn}
-use Rattle.store.specs.Meaning.{Remarked}
-use Rattle.store.proofs.Afters.{after_map, after_both}
-use Rattle.image.proofs.ImageWrites.{bring_sound, image_brought}
+use Rattle.std.proofs.Common.{ap₂, ◌∙◌}
+use Rattle.code.specs.Marks.{marked}
+use Rattle.image.specs.Images.{BroughtIn}
+use Rattle.store.specs.Meaning.{back_answer}
+use Rattle.image.proofs.ImageBytes.{still_image}
+use Rattle.image.proofs.ImageWrites.{brought_in, image_brought}
 use Rattle.image.proofs.images.ImageWriteStore.bring_in.Goals as goal
 
 pub invariant_of-self : goal.invariant_of-self
 invariant_of-self c =
-    let bs : List ℕ = c.args.self.now.lent.bytes.now in
-    let bs' : List ℕ = c.bring_in.new.self.bytes.now in
-    let sound = c.args.self.now.sound in
-    record {
-      sound =
-          after_both c.bring_in.result (BroughtIn bs c.args.s bs') (bs' ≡ bs) (is_ok (image_check bs') ≡ true) c.bring_in.ensures.1
-          (bring_sound bs bs' sound c.args.s) (λ e. ap (λ x. is_ok (image_check x)) e ∙ sound);
-    }
+    let bs = c.args.self.now.bytes.now in
+    let t : BroughtIn bs c.args.s c.lay_marks.new.bytes = brought_in bs c.lay_marks.new.bytes c.roll-roll.result c.bring_in.new.self c.args.s c.args.self.now.sound c.roll-roll.ensures.size c.roll-roll.ensures.out c.in_ok-bring_in.ensures.after c.lay_marks.ensures in
+    record { sound = still_image bs c.lay_marks.new.bytes c.args.self.now.sound t.long t.header t.low }
 
-pub returns : goal.returns
-returns c =
-    let bs : List ℕ = c.args.self.now.lent.bytes.now in
-    let bs' : List ℕ = c.bring_in.new.self.bytes.now in
-    record {
-      answer = c.bring_in.ensures.0;
-      after = after_map c.bring_in.result (BroughtIn bs c.args.s bs') (Remarked (image_meaning bs) c.args.s false (image_meaning bs')) (bs' ≡ bs) (image_meaning bs' ≡ image_meaning bs)
-          (image_brought bs bs' c.args.s) (ap image_meaning) c.bring_in.ensures.1;
-      bytes = c.bring_in.ensures;
-    }
+pub returns-clause-bytes : goal.returns-clause-bytes
+returns-clause-bytes c =
+    let bs = c.args.self.now.bytes.now in (
+      c.in_ok-bring_in.ensures.answer ∙ ap₂ (λ k bits. back_answer k (marked bits) c.args.s) c.roll-roll.ensures.size c.roll-roll.ensures.out,
+      brought_in bs c.lay_marks.new.bytes c.roll-roll.result c.bring_in.new.self c.args.s c.args.self.now.sound c.roll-roll.ensures.size c.roll-roll.ensures.out c.in_ok-bring_in.ensures.after c.lay_marks.ensures,
+    )
+
+pub returns-clause-after : goal.returns-clause-after
+returns-clause-after c = image_brought c.args.self.now.bytes.now c.lay_marks.new.bytes c.args.s (returns-clause-bytes c).1

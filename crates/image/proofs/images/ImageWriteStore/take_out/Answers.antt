@@ -1,28 +1,23 @@
-use Rattle.std.proofs.Common.{◌≡◌, ℕ, true, List, is_ok, ap, ◌∙◌}
-use Rattle.image.specs.Images.{image_check, image_meaning, TakenOut}
-use Rattle.store.specs.Meaning.{Remarked}
-use Rattle.store.proofs.Afters.{after_map, after_both}
-use Rattle.image.proofs.ImageWrites.{take_sound, image_taken}
+use Rattle.std.proofs.Common.{subst, ap₂, ◌∙◌}
+use Rattle.code.specs.Marks.{marked}
+use Rattle.image.specs.Images.{Filled, TakenOut}
+use Rattle.store.specs.Meaning.{out_answer}
+use Rattle.image.proofs.ImageBytes.{still_image}
+use Rattle.image.proofs.ImageWrites.{taken_out, image_taken}
 use Rattle.image.proofs.images.ImageWriteStore.take_out.Goals as goal
 
-pub invariant_of-self : goal.invariant_of-self
-invariant_of-self c =
-    let bs : List ℕ = c.args.self.now.lent.bytes.now in
-    let bs' : List ℕ = c.take_out.new.self.bytes.now in
-    let sound = c.args.self.now.sound in
-    record {
-      sound =
-          after_both c.take_out.result (TakenOut bs c.args.s bs') (bs' ≡ bs) (is_ok (image_check bs') ≡ true) c.take_out.ensures.1
-          (take_sound bs bs' sound c.args.s) (λ e. ap (λ x. is_ok (image_check x)) e ∙ sound);
-    }
+pub invariant_of-self-2 : goal.invariant_of-self-2
+invariant_of-self-2 c =
+    let bs = c.args.self.now.bytes.now in
+    let t : TakenOut bs c.args.s c.lay_marks.new.bytes = taken_out bs c.fill_lost.new.bytes c.lay_marks.new.bytes c.roll-roll.result c.take_out.new.self c.args.s c.args.self.now.sound c.roll-roll.ensures.size c.roll-roll.ensures.out c.in_ok-take_out.ensures.after (subst (λ k. Filled bs c.args.s k c.fill_lost.new.bytes) c.number.ensures.same c.fill_lost.ensures) c.lay_marks.ensures in
+    record { sound = still_image bs c.lay_marks.new.bytes c.args.self.now.sound t.long t.header t.low }
 
-pub returns : goal.returns
-returns c =
-    let bs : List ℕ = c.args.self.now.lent.bytes.now in
-    let bs' : List ℕ = c.take_out.new.self.bytes.now in
-    record {
-      answer = c.take_out.ensures.0;
-      after = after_map c.take_out.result (TakenOut bs c.args.s bs') (Remarked (image_meaning bs) c.args.s true (image_meaning bs')) (bs' ≡ bs) (image_meaning bs' ≡ image_meaning bs)
-          (image_taken bs bs' c.args.s) (ap image_meaning) c.take_out.ensures.1;
-      bytes = c.take_out.ensures;
-    }
+pub returns-clause-bytes : goal.returns-clause-bytes
+returns-clause-bytes c =
+    let bs = c.args.self.now.bytes.now in (
+      c.in_ok-take_out.ensures.answer ∙ ap₂ (λ k bits. out_answer k (marked bits) c.args.s) c.roll-roll.ensures.size c.roll-roll.ensures.out,
+      taken_out bs c.fill_lost.new.bytes c.lay_marks.new.bytes c.roll-roll.result c.take_out.new.self c.args.s c.args.self.now.sound c.roll-roll.ensures.size c.roll-roll.ensures.out c.in_ok-take_out.ensures.after (subst (λ k. Filled bs c.args.s k c.fill_lost.new.bytes) c.number.ensures.same c.fill_lost.ensures) c.lay_marks.ensures,
+    )
+
+pub returns-clause-after : goal.returns-clause-after
+returns-clause-after c = image_taken c.args.self.now.bytes.now c.lay_marks.new.bytes c.args.s (returns-clause-bytes c).1
