@@ -2,7 +2,7 @@
 use Rattle.std.proofs.Common.{◌≡◌, ℕ, zero, suc, ◌+◌, ◌<◌, Bool, true, false, cond, Some, None, Option, sym, refl, ap, ◌∙◌, ap₂, inl, inr, le_refl, not-suc-le-zero, add-one, arith}
 use native.Mathlib.Nat.{le_step}
 use Rattle.std.proofs.lemmas.Bool.{cases_eq}
-use Rattle.store.specs.Meaning.{first}
+use Rattle.store.specs.Meaning.{first, Next}
 
 -- one number more
 after : Option ℕ → Bool → ℕ → Option ℕ
@@ -13,7 +13,7 @@ first_step : (f : ℕ → Bool) (k : ℕ) → first f (suc k) ≡ after (first f
 unfolding after
 first_step f k = elim (first f k) as (λ o. elim o [ Some j ↦ Some j | None ↦ cond (f k) (Some k) None ] ≡ after o (f k) k) [ Some j ↦ refl | None ↦ refl ]
 
-pub first_skip : (f : ℕ → Bool) (k : ℕ) → first f k ≡ None → f k ≡ false → first f (k + 1) ≡ None
+first_skip : (f : ℕ → Bool) (k : ℕ) → first f k ≡ None → f k ≡ false → first f (k + 1) ≡ None
 unfolding after
 first_skip f k e p = ap (first f) (add-one k) ∙ first_step f k ∙ ap (λ o. after o (f k) k) e ∙ ap (λ t. cond t (Some k) None) p
 
@@ -50,6 +50,11 @@ first_hit f k (suc n) e p l = elim (cases_eq k n) [
   | inr d ↦ first_stays f n k (first_hit f k n e p (omega arith))
 ]
 
+-- where none passes, none is found
+pub none_first : (f : ℕ → Bool) (n : ℕ) → ((k : ℕ) → k < n → f k ≡ false) → first f n ≡ None
+none_first f zero h = refl
+none_first f (suc n) h = sym (ap (first f) (add-one n)) ∙ first_skip f n (none_first f n (λ k l. h k (le_step l))) (h n (le_refl (suc n)))
+
 -- where none is found, none passes
 pub first_none : (f : ℕ → Bool) (n : ℕ) → first f n ≡ None → (k : ℕ) → k < n → f k ≡ false
 first_none f zero e k l = absurd (not-suc-le-zero l)
@@ -63,3 +68,8 @@ pub first_cong : (f g : ℕ → Bool) (n : ℕ) → ((k : ℕ) → k < n → f k
 first_cong f g zero h = refl
 first_cong f g (suc n) h =
     first_step f n ∙ ap₂ (λ o t. after o t n) (first_cong f g n (λ k l. h k (le_step l))) (h n (le_refl (suc n))) ∙ sym (first_step g n)
+
+-- what a search from 0 on finds
+pub first_is : (f : ℕ → Bool) (n : ℕ) (r : Option ℕ) → Next f n 0 r → r ≡ first f n
+first_is f n None h = sym (none_first f n (λ k l. h k (omega arith) l))
+first_is f n (Some i) h = sym (first_hit f i n (none_first f i (λ k l. h.3 k (omega arith) l)) h.2 h.1)

@@ -1,14 +1,13 @@
 // The audit of a store: the first broken rule, neighbourhoods before diagonals, each in rising order.
-ghost use Rattle.std.specs.Prelude.{◌≡◌, ℕ, ◌<◌, false, ◌&&◌, is_ok, if◌then◌else◌, Some, nat_lt};
-ghost use Rattle.code.specs.Rules.{of};
+ghost use Rattle.std.specs.Prelude.{◌≡◌, Some};
 ghost use Rattle.audit.specs.Audits.{Audited, Found, verdict_text};
-ghost use Rattle.store.specs.Meaning.{absent_of, first, get_answer};
+ghost use Rattle.store.specs.Meaning.{AllIn, absent_of, first};
 
 use code::Marks;
 use faults::Fault;
 use kinds::BlockKind;
 use std::fmt;
-use store::ReadStore;
+use store::{Beside, ReadStore, block_or_zero, next_out};
 
 #[derive(Clone, Copy, Debug, PartialEq, Eq)]
 pub enum Verdict {
@@ -29,50 +28,27 @@ impl fmt::Display for Verdict {
     }
 }
 
-// Is station s, below the size, out or in `also`?
-pub fn is_absent<S: ReadStore>(store: &S, also: Marks, s: u8) -> bool
-    ensures { result ≡ (nat_lt s (S.means store.now).size && absent_of (S.means store.now) also.bits s) }
+// The smallest station that is out.
+pub fn first_absent<S: ReadStore>(store: &S) -> Option<u8>
+    ensures { result ≡ first (S.means store.now).out (S.means store.now).size }
 {
-    match store.is_in(s) {
-        Ok(inside) => !inside || also.has(s),
-        Err(_) => false,
-    }
-}
-
-// The smallest station that is out or in `also`.
-pub fn first_absent<S: ReadStore>(store: &S, also: Marks) -> Option<u8>
-    ensures { result ≡ first (absent_of (S.means store.now) also.bits) (S.means store.now).size }
-{
-    for s in 0..store.size().number() {
-        if is_absent(store, also, s) {
-            return Some(s);
-        }
-    }
-    None
-}
-
-// The stored block of a pair, or zero where the store refuses it.
-fn stored<S: ReadStore>(store: &S, a: u8, b: u8) -> S::Block
-    ensures { result ≡ (if is_ok (get_answer (S.means store.now) a b) then of (S.means store.now).block a b else S.Block.group.none) }
-{
-    let mut block = S::Block::zero();
-    let _ = store.get(a, b, &mut block);
-    block
+    next_out(store, 0)
 }
 
 // The audit of a store with no station out.
 fn first_broken<S: ReadStore>(store: &S) -> Verdict
-    requires { (s : ℕ) → s < (S.means store.now).size → (S.means store.now).out s ≡ false }
+    requires { AllIn (S.means store.now) }
     ensures { Found S.Block.group (S.means store.now).size (S.means store.now).block result }
 {
     let n = store.size().number();
     let zero = S::Block::zero();
+    // A rule of the project asks for loops over the rules and their pairs, left by a label.
     'audit: {
         for h in 0..n {
             let mut sum = zero;
             for k in 0..n {
                 if k != h {
-                    sum = sum.add(stored(store, h, k));
+                    sum = sum.add(block_or_zero(store, h, k));
                 }
             }
             if !sum.same(zero) {
@@ -84,7 +60,7 @@ fn first_broken<S: ReadStore>(store: &S) -> Verdict
             for a in 0..n {
                 let b = (m + (n - a)) % n;
                 if b <= a {
-                    sum = sum.add(stored(store, a, b));
+                    sum = sum.add(block_or_zero(store, a, b));
                 }
             }
             if !sum.same(zero) {
@@ -99,15 +75,15 @@ fn first_broken<S: ReadStore>(store: &S) -> Verdict
 pub fn audit_beside<S: ReadStore>(store: &S, also: Marks) -> Result<Verdict, Fault>
     ensures { Audited S.Block.group (S.means store.now).size (absent_of (S.means store.now) also.bits) (S.means store.now).block result }
 {
-    match first_absent(store, also) {
-        Some(s) => Err(Fault::AbsentAtAudit(s)),
-        None => Ok(first_broken(store)),
-    }
+    audit(&Beside { store, also })
 }
 
 // The audit of a store. Refused by 12 b, with the smallest station that is out.
 pub fn audit<S: ReadStore>(store: &S) -> Result<Verdict, Fault>
     ensures { Audited S.Block.group (S.means store.now).size (S.means store.now).out (S.means store.now).block result }
 {
-    audit_beside(store, Marks::none())
+    match first_absent(store) {
+        Some(s) => Err(Fault::AbsentAtAudit(s)),
+        None => Ok(first_broken(store)),
+    }
 }

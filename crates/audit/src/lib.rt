@@ -3,4 +3,4 @@
 
 pub mod audits;
 
-pub use audits::{Verdict, audit, audit_beside, first_absent, is_absent};
+pub use audits::{Verdict, audit, audit_beside, first_absent};

@@ -1,7 +1,6 @@
-mod Absence
-mod Twos
-mod Areas
-mod Assembled
-mod Picked
-mod Laid
-mod Impulses
+pub mod Assembled
+pub mod Counted
+pub mod Impulses
+pub mod Laid
+pub mod Picked
+pub mod Twos

@@ -8,10 +8,11 @@ use Rattle.code.specs.Rules.{Blocks, of, diagonal}
 use Rattle.code.specs.declared.places.Pair.{Pair}
 use Rattle.code.proofs.Rest.{rest_stands}
 use Rattle.code.proofs.Rows.{ordered, of_swap}
-use Rattle.recovery.specs.Recovery.{without, Two, Rows, row_place_lem}
+use Rattle.store.specs.Standing.{without}
+use Rattle.recovery.specs.Recovery.{Two, Rows, row_place}
 
 -- a place in the rows
-pub row_below : (n : ℕ) (x : Pair) (a b : ℕ) → a < n → b < n → row_place_lem n x a b < 2 * n
+pub row_below : (n : ℕ) (x : Pair) (a b : ℕ) → a < n → b < n → row_place n x a b < 2 * n
 row_below n x a b la lb = grind (arith, nat_tests)
 
 module _ {B : Type 0} (G : Group B) (n : ℕ) (absent : ℕ → Bool) (f : Blocks B) (a b : ℕ) (la : a < n) (lb : b < n) (r : B) where
@@ -39,21 +40,21 @@ module _ {B : Type 0} (G : Group B) (n : ℕ) (absent : ℕ → Bool) (f : Block
         }
 
     module _ (x : Pair) (two : Two absent n x) (area : List B) (rows : Rows G n absent f x area) where
-      pub in_row : get_or area (row_place_lem n x a b) G.none ≡ of rows.word a b
+      pub in_row : get_or area (row_place n x a b) G.none ≡ of rows.word a b
       in_row = go (cases_eq a x.smaller) (cases_eq a x.larger) (cases_eq b x.smaller) (cases_eq b x.larger)
         where
-          at : (p : ℕ) → row_place_lem n x a b ≡ p → get_or area (row_place_lem n x a b) G.none ≡ get_or area p G.none
+          at : (p : ℕ) → row_place n x a b ≡ p → get_or area (row_place n x a b) G.none ≡ get_or area p G.none
           at p e = ap (λ q. get_or area q G.none) e
 
           go : (a ≡ x.smaller) ⊎ (a ≢ x.smaller) → (a ≡ x.larger) ⊎ (a ≢ x.larger) → (b ≡ x.smaller) ⊎ (b ≢ x.smaller) → (b ≡ x.larger) ⊎ (b ≢ x.larger)
-              → get_or area (row_place_lem n x a b) G.none ≡ of rows.word a b
+              → get_or area (row_place n x a b) G.none ≡ of rows.word a b
           go (inl e) _ _ _ = at b (grind (arith, nat_tests)) ∙ rows.smaller b lb ∙ ap (λ s. of rows.word s b) (sym e)
           go (inr d) (inl e) _ _ = at (n + b) (grind (arith, nat_tests)) ∙ rows.larger b lb ∙ ap (λ s. of rows.word s b) (sym e)
           go (inr d) (inr d') (inl e) _ = at a (grind (arith, nat_tests)) ∙ rows.smaller a la ∙ of_swap rows.word x.smaller a ∙ ap (of rows.word a) (sym e)
           go (inr d) (inr d') (inr d'') (inl e) = at (n + a) (grind (arith, nat_tests)) ∙ rows.larger a la ∙ of_swap rows.word x.larger a ∙ ap (of rows.word a) (sym e)
           go (inr d) (inr d') (inr e) (inr e') = absurd (not_kept (two.others a la d d', two.others b lb e e'))
 
-      pub two_recovered : absentees absent n ≡ 2 → r ≡ get_or area (row_place_lem n x a b) G.none → Recovered G n absent f a b r
+      pub two_recovered : absentees absent n ≡ 2 → r ≡ get_or area (row_place n x a b) G.none → Recovered G n absent f a b r
       two_recovered c e =
           record {
             stored = λ k. absurd (not_kept k);

@@ -19,6 +19,13 @@ impulse G n a b x =
       block = λ u v. cond (u == max a b && v == min a b) x G.none;
     }
 
+-- is the pair of a and b a data pair?
+abbrev pub data_pair_answer : ℕ → ℕ → ℕ → Result (Unit {0}) Fault
+data_pair_answer n a b =
+    cond (nat_le n a) (Err (NoSuchStation a))
+    (cond (nat_le n b) (Err (NoSuchStation b))
+    (cond (nat_le n (max a b + 2)) (Err (CheckPair (max a b))) (Ok tt)))
+
 -- may the pattern of a and b be had, with areas of these lengths?
 abbrev pub pattern_answer : ℕ → ℕ → ℕ → ℕ → ℕ → Result (Unit {0}) Fault
 pattern_answer n work into a b =

@@ -7,23 +7,11 @@ use Rattle.code.specs.Rules.{Blocks, of, Codeword, Agree}
 use Rattle.faults.specs.declared.faults.Fault.{Fault}
 use Rattle.faults.specs.declared.faults.Fault.TheVariants.{AreaTooShort, NoSuchStation, TooManyAbsent}
 use Rattle.code.specs.declared.places.Pair.{Pair}
-use Rattle.store.specs.Meaning.{Meaning, absent_of}
+use Rattle.store.specs.Meaning.{Meaning}
 
 -- the marks of the absent stations: none from n on
-abbrev pub AbsentMarks : {B : Type 0} → Meaning B → ℕ → ℕ → Type 0
-AbsentMarks m bits marks = (s : ℕ) → marked marks s ≡ (nat_lt s m.size && absent_of m bits s)
-
--- each station that is out is marked
-abbrev pub Covers : {B : Type 0} → Meaning B → ℕ → Type 0
-Covers m marks = (s : ℕ) → s < m.size → m.out s ≡ true → marked marks s ≡ true
-
--- f with none at each pair that has an absent station
-abbrev pub without : {B : Type 0} → Group B → (ℕ → Bool) → Blocks B → Blocks B
-without G absent f a b = cond (absent a || absent b) G.none (f a b)
-
--- the blocks of a store, with none at each pair that has a marked station
-abbrev pub standing : {B : Type 0} → Group B → Meaning B → ℕ → Blocks B
-standing G m marks = without G (marked marks) m.block
+abbrev pub AbsentMarks : {B : Type 0} → Meaning B → ℕ → Type 0
+AbsentMarks m marks = (s : ℕ) → marked marks s ≡ (nat_lt s m.size && m.out s)
 
 -- may the pair of a and b be recovered, with a work area of this length?
 abbrev pub recover_answer : ℕ → (ℕ → Bool) → ℕ → ℕ → ℕ → Result (Unit {0}) Fault
@@ -50,8 +38,8 @@ pub record Rows {B : Type 0} (G : Group B) (n : ℕ) (absent : ℕ → Bool) (f 
   pub larger : (k : ℕ) → k < n → slice_index_or area (n + k) G.none ≡ of word x.larger k
 
 -- where the rows have the block of a pair with one of the two stations
-abbrev pub row_place_lem : ℕ → Pair → ℕ → ℕ → ℕ
-row_place_lem n x a b = cond (a == x.smaller) b (cond (a == x.larger) (n + b) (cond (b == x.smaller) a (n + a)))
+abbrev pub row_place : ℕ → Pair → ℕ → ℕ → ℕ
+row_place n x a b = cond (a == x.smaller) b (cond (a == x.larger) (n + b) (cond (b == x.smaller) a (n + a)))
 
 -- what the rebuilding of two absent stations answers, and what the area then holds
 abbrev pub RebuiltTwo : {B : Type 0} → Group B → ℕ → (ℕ → Bool) → Blocks B → List B → Result (Option Pair) Fault → List B → Type 0

@@ -1,48 +1,42 @@
--- The work area while the stations i and j are rebuilt, i before j, of n stations: rows of n blocks.
--- The first two are the rows of i and of j, the third the neighbourhood sums, the fourth the diagonal sums, the fifth
--- how far the row of i changes along the walk i, j, j + (j - i), .. round the stations.
-use Rattle.std.specs.Prelude.{◌≡◌, ℕ, ◌+◌, ◌-◌, ◌*◌, ◌%◌, ◌<◌, ◌≤◌, cond, List, ◌==◌, slice_index_or, slice_set}
+-- Rows of n blocks, while the stations i and j are rebuilt, i before j, of n stations: the rows of i and of j, first and
+-- second; near, the neighbourhood sums; across, the diagonal sums; and drift, how far the row of i changes along the
+-- walk i, j, j + (j - i), .. round the stations.
+use Rattle.std.specs.Prelude.{◌≡◌, ℕ, ◌+◌, ◌-◌, ◌*◌, ◌%◌, ◌<◌, Bool, cond, List, ◌==◌, slice_index_or, slice_set}
 use Rattle.kinds.specs.Group.{Group, sum_to}
+use Rattle.code.specs.Rebuilt.{Kept}
+use Rattle.code.specs.Rules.{Blocks, of, Codeword, Agree}
+use Rattle.code.specs.declared.places.Pair.{Pair}
 
 -- where the walk is at time t
 abbrev pub station : ℕ → ℕ → ℕ → ℕ → ℕ
 station n i j t = (i + t * (j - i)) % n
 
 module _ {B : Type 0} (G : Group B) where
-  -- the blocks from p on
-  abbrev pub from : List B → ℕ → ℕ → B
-  from area p k = slice_index_or area (p + k) G.none
-
-  -- the area is as it was below p
-  abbrev pub SameBelow : ℕ → List B → List B → Type 0
-  SameBelow p area area' = (k : ℕ) → k < p → slice_index_or area' k G.none ≡ slice_index_or area k G.none
+  -- the block at a place of a row
+  abbrev pub block_at : List B → ℕ → B
+  block_at row k = slice_index_or row k G.none
 
   -- what the walk has gathered s steps after the third station
-  abbrev pub gathered : ℕ → ℕ → ℕ → List B → ℕ → B
-  gathered n i j area s =
-      sum_to G (λ u. G.sum (from area (2 * n) (station n i j (u + 2))) (from area (3 * n) (station n i j (u + 3)))) s
+  abbrev pub gathered : ℕ → ℕ → ℕ → List B → List B → ℕ → B
+  gathered n i j near across s = sum_to G (λ u. G.sum (block_at near (station n i j (u + 2))) (block_at across (station n i j (u + 3)))) s
 
   -- that by station, and its sum over the stations but i and j
   abbrev pub all_gathered : ℕ → ℕ → ℕ → List B → B
-  all_gathered n i j area = sum_to G (λ k. cond (k == j) G.none (cond (k == i) G.none (from area (4 * n) k))) n
+  all_gathered n i j drift = sum_to G (λ k. cond (k == j) G.none (cond (k == i) G.none (block_at drift k))) n
 
-  -- the rows of i and j, but for their pairs with i and j
-  pub record OpenRows (n : ℕ) (third : B) (area area' : List B) : Type 0 where
-    pub first : (k : ℕ) → k < n → from area' 0 k ≡ G.sum third (from area (4 * n) k)
-    pub second : (k : ℕ) → k < n → from area' n k ≡ G.sum (from area (2 * n) k) (G.sum third (from area (4 * n) k))
-    pub same : (k : ℕ) → 2 * n ≤ k → slice_index_or area' k G.none ≡ slice_index_or area k G.none
+  -- the row of i with its pairs with j and with i, and the row of j with its pairs with i and with j
+  abbrev pub first_closed : ℕ → ℕ → ℕ → List B → List B → List B → List B
+  first_closed n i j across first second =
+      slice_set (slice_set first j (block_at across j)) i (G.sum (block_at across i) (block_at second (station n i j (n - 1))))
 
-  -- the area with the pair of i and j in both rows
-  abbrev pub paired : ℕ → ℕ → ℕ → List B → List B
-  paired n i j area =
-      let x : B = from area (3 * n) j in
-      slice_set (slice_set area j x) (n + i) x
+  abbrev pub second_closed : ℕ → ℕ → ℕ → List B → List B → List B → List B
+  second_closed n i j across first second =
+      slice_set (slice_set second i (block_at across j)) j (G.sum (block_at across (station n i j 2)) (block_at first (station n i j 2)))
 
-  -- those pairs: that of i and j, the loop of j, the loop of i
-  abbrev pub closed : ℕ → ℕ → ℕ → List B → List B
-  closed n i j area =
-      let x : B = from area (3 * n) j in
-      let both : List B = slice_set (slice_set area j x) (n + i) x in
-      let loop_j : B = G.sum (from area (3 * n) (station n i j 2)) (from area 0 (station n i j 2)) in
-      let loop_i : B = G.sum (from area (3 * n) i) (from area n (station n i j (n - 1))) in
-      slice_set (slice_set both (n + j) loop_j) i loop_i
+  -- the rows of two stations in a codeword that agrees with f at each pair of stations that stand
+  pub record RowsOf (n : ℕ) (absent : ℕ → Bool) (f : Blocks B) (x : Pair) (first second : List B) : Type 0 where
+    pub word : Blocks B
+    pub code : Codeword G n word
+    pub agrees : Agree n (Kept absent) word f
+    pub smaller : (k : ℕ) → k < n → block_at first k ≡ of word x.smaller k
+    pub larger : (k : ℕ) → k < n → block_at second k ≡ of word x.larger k

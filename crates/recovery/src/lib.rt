@@ -2,12 +2,18 @@
 #![tactic(auto)]
 
 pub mod absent;
+mod admits;
+mod areas;
 pub mod patterns;
 pub mod rebuilds;
 pub mod recovery;
+mod rows;
 mod sums;
+mod walks;
 
 pub use absent::{absent_marks, count_absent};
+pub use admits::admit_data;
+pub use areas::{admit_area, work_length};
 pub use patterns::{Impulse, pattern};
 pub use rebuilds::rebuild_two;
 pub use recovery::{recover, recover_beside};

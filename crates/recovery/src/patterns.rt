@@ -3,12 +3,13 @@ ghost use Rattle.std.specs.Prelude.{◌≡◌, ℕ, ◌+◌, ◌*◌, ◌<◌, �
 ghost use Rattle.code.specs.Places.{pair_place};
 ghost use Rattle.code.specs.Sizes.{pairs as pair_count};
 ghost use Rattle.recovery.specs.Patterns.{impulse, pattern_answer, Pattern};
-ghost use Rattle.recovery.specs.Recovery.{row_place_lem};
+ghost use Rattle.recovery.specs.Recovery.{row_place};
 
-use crate::absent::absent_marks;
+use crate::admits::admit_data;
+use crate::areas::admit_area;
 use crate::rebuilds::rebuild;
-use crate::recovery::row_block;
-use code::{Marks, Pair, Size, pair_at};
+use crate::rows::RowPair;
+use code::{Pair, Size, pair_at};
 use faults::Fault;
 use kinds::BlockKind;
 use store::ReadStore;
@@ -51,30 +52,13 @@ impl<B: BlockKind> ReadStore for Impulse<B> {
     }
 
     fn is_in(&self, s: u8) -> Result<bool, Fault> {
-        let n = self.size.number();
-        if s >= n {
-            return Err(Fault::NoSuchStation(s));
-        }
-        Ok(s + 2 < n)
+        self.size.admit(s)?;
+        Ok(s + 2 < self.size.number())
     }
 
     fn get(&self, a: u8, b: u8, into: &mut B) -> Result<(), Fault> {
-        let n = self.size.number();
-        if a >= n {
-            return Err(Fault::NoSuchStation(a));
-        }
-        if b >= n {
-            return Err(Fault::NoSuchStation(b));
-        }
-        let larger = a.max(b);
-        let smaller = a.min(b);
-        if smaller + 2 >= n {
-            return Err(Fault::StationOut(smaller));
-        }
-        if larger + 2 >= n {
-            return Err(Fault::StationOut(larger));
-        }
-        *into = self.at(larger, smaller);
+        self.admit_pair(a, b)?;
+        *into = self.at(a.max(b), a.min(b));
         Ok(())
     }
 }
@@ -83,48 +67,23 @@ impl<B: BlockKind> ReadStore for Impulse<B> {
 fn may_lay(size: Size, work: usize, into: usize, a: u8, b: u8) -> Result<(), Fault>
     ensures { result ≡ pattern_answer size.number work into a b }
 {
-    let n = size.number();
-    if work < 8 * (n as usize) {
-        return Err(Fault::AreaTooShort(work));
-    }
+    admit_area(size, work)?;
     if into < size.pairs() {
         return Err(Fault::AreaTooShort(into));
     }
-    if a >= n {
-        return Err(Fault::NoSuchStation(a));
-    }
-    if b >= n {
-        return Err(Fault::NoSuchStation(b));
-    }
-    let larger = a.max(b);
-    if larger + 2 >= n {
-        return Err(Fault::CheckPair(larger));
-    }
-    Ok(())
-}
-
-// The bit of a pair: 0 for a data pair.
-fn bit_of(n: u8, two: Pair, pair: Pair, rows: &[bool]) -> bool
-    requires first { pair.larger < n }
-    requires second { pair.smaller < n }
-    requires small { n ≤ 31 }
-    requires rows { 8 * n ≤ length rows.now }
-    ensures { result ≡ (nat_le n (pair.larger + 2) && slice_index_or rows.now (row_place_lem n two pair.larger pair.smaller) false) }
-{
-    pair.larger + 2 >= n && row_block(n, two, pair.larger, pair.smaller, rows)
+    admit_data(size, a, b)
 }
 
 // The bits of the check pairs, from the rows of the check stations, and 0 at the data pairs, in place order.
-fn lay_bits(size: Size, two: Pair, rows: &[bool], into: &mut [bool])
-    requires rows { 8 * size.number ≤ length rows.now }
-    requires long { pair_count size.number ≤ length into.old }
-    ensures laid { (x y : ℕ) → x < size.number → y ≤ x → slice_index_or into.new (pair_place x y) false ≡ (nat_le size.number (x + 2) && slice_index_or rows.now (row_place_lem size.number two x y) false) }
-    ensures later { (p : ℕ) → pair_count size.number ≤ p → slice_index_or into.new p false ≡ slice_index_or into.old p false }
+fn lay_bits(rows: &RowPair<'_, bool>, into: &mut [bool])
+    requires long { pair_count rows.now.size.number ≤ length into.old }
+    ensures laid { (x y : ℕ) → x < rows.now.size.number → y ≤ x → slice_index_or into.new (pair_place x y) false ≡ (nat_le rows.now.size.number (x + 2) && slice_index_or rows.now.area.now (row_place rows.now.size.number rows.now.two x y) false) }
+    ensures later { (p : ℕ) → pair_count rows.now.size.number ≤ p → slice_index_or into.new p false ≡ slice_index_or into.old p false }
 {
-    let n = size.number();
-    for p in 0..size.pairs() {
+    let bits = &mut into[..rows.size.pairs()];
+    for (p, bit) in bits.iter_mut().enumerate() {
         if let Some(pair) = pair_at(p) {
-            into[p] = bit_of(n, two, pair, rows);
+            *bit = rows.bit(pair);
         }
     }
 }
@@ -138,13 +97,17 @@ fn lay_pattern(size: Size, a: u8, b: u8, work: &mut [bool], into: &mut [bool])
 {
     let n = size.number();
     let store = Impulse::new(size, a, b, true);
-    let absent = absent_marks(&store, Marks::none());
     let two = Pair {
         larger: n - 1,
         smaller: n - 2,
     };
-    rebuild(&store, absent, two, work);
-    lay_bits(size, two, work, into);
+    rebuild(&store, two, work);
+    let rows = RowPair {
+        size,
+        two,
+        area: work,
+    };
+    lay_bits(&rows, into);
 }
 
 // The pattern of the data pair of two stations, in the first bits of `into`, one for each pair in place order.
@@ -156,9 +119,7 @@ pub fn pattern(size: Size, a: u8, b: u8, work: &mut [bool], into: &mut [bool]) -
     ensures into { is_ok result ≡ false → into.new ≡ into.old }
     ensures work { is_ok result ≡ false → work.new ≡ work.old }
 {
-    let answer = may_lay(size, work.len(), into.len(), a, b);
-    if answer.is_ok() {
-        lay_pattern(size, a, b, work, into);
-    }
-    answer
+    may_lay(size, work.len(), into.len(), a, b)?;
+    lay_pattern(size, a, b, work, into);
+    Ok(())
 }

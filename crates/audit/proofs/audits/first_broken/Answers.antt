@@ -1,8 +1,9 @@
-use Rattle.std.proofs.Common.{◌≡◌, ℕ, ◌<◌, ◌≤◌, cond, eqb, leb, sym, ap, ◌∙◌, ap₂, arith, below_more}
+use Rattle.std.proofs.Common.{◌≡◌, ℕ, ◌<◌, ◌≤◌, cond, eqb, leb, sym, ap, ◌∙◌, arith, below_more}
 use Rattle.std.proofs.lemmas.Bool.{le-leb, lt-leb, cond-true, cond-false, both_ways}
 use Rattle.kinds.specs.Group.{sum_to}
 use Rattle.code.specs.Rules.{of, neighbourhood, diagonal}
-use Rattle.code.proofs.Sums.{sum_more, cond_eq, cond_ne}
+use Rattle.code.proofs.Steps.{sum_more, sum_skip}
+use Rattle.code.proofs.Sums.{cond_eq, cond_ne}
 use Rattle.code.proofs.Rows.{of_le}
 use Rattle.code.proofs.Diagonals.{share, mate, mate_below, diagonal_shares}
 use Rattle.store.proofs.Gets.{got}
@@ -17,14 +18,12 @@ loop-k-preserved g c =
     let k : ℕ = c.loop-k.k in
     let lh : h < m.size = omega (arith, c.size.ensures, c.number-n.ensures.same, c.loop-h-test.true) in
     let lk : k < m.size = omega (arith, c.size.ensures, c.number-n.ensures.same, c.loop-k-test.true) in
+    let term = λ (k : ℕ). cond (eqb k h) G.none (of m.block h k) in
     elim c.if-k-h.branch [
       | then-k-h w ↦ w.sum-is ∙ w.add-sum.ensures
-          ∙ ap₂ G.sum c.loop-k.invariant
-          (w.stored.ensures ∙ got m h k (of m.block h k) G.none lh lk (c.requires h lh) (c.requires k lk) ∙ sym (cond_ne k h G.none (of m.block h k) w.if-k-h.true))
-          ∙ sym (sum_more G (λ k. cond (eqb k h) G.none (of m.block h k)) k)
-      | else-k-h w ↦ w.sum-is ∙ c.loop-k.invariant ∙ sym (G.unit (sum_to G (λ k. cond (eqb k h) G.none (of m.block h k)) k))
-          ∙ ap (G.sum (sum_to G (λ k. cond (eqb k h) G.none (of m.block h k)) k)) (sym (cond_eq k h G.none (of m.block h k) w.if-k-h.false))
-          ∙ sym (sum_more G (λ k. cond (eqb k h) G.none (of m.block h k)) k)
+          ∙ sum_more G term k c.loop-k.sum w.block_or_zero.result c.loop-k.invariant
+          (w.block_or_zero.ensures ∙ got m h k (of m.block h k) G.none lh lk (c.requires h lh) (c.requires k lk) ∙ sym (cond_ne k h G.none (of m.block h k) w.if-k-h.true))
+      | else-k-h w ↦ w.sum-is ∙ sum_skip G term k c.loop-k.sum c.loop-k.invariant (cond_eq k h G.none (of m.block h k) w.if-k-h.false)
     ]
 
 pub loop-h-preserved : goal.loop-h-preserved
@@ -47,18 +46,16 @@ loop-a-preserved g c =
     let b : ℕ = mate c.number-n.result d a in
     let eb : b ≡ mate m.size d a = ap (λ n. mate n d a) en in
     let lb : b < m.size = omega (arith, eb, mate_below m.size d a (omega arith)) in
+    let e : leb (mate m.size d a) a ≡ leb b a = ap (λ x. leb x a) (sym eb) in
     elim c.if-b-a.branch [
       | then-b-a w ↦ let l : b ≤ a = w.if-b-a.true in
           w.sum-is ∙ w.add-sum-then-b-a.ensures
-          ∙ ap₂ G.sum c.loop-a.invariant
-          (w.stored-then-b-a.ensures ∙ got m a b (of m.block a b) G.none la lb (c.requires a la) (c.requires b lb) ∙ of_le m.block a b l
-          ∙ ap (m.block a) eb ∙ sym (cond-true (leb (mate m.size d a) a) (m.block a (mate m.size d a)) G.none (le-leb (mate m.size d a) a (omega (arith, eb, l)))))
-          ∙ sym (sum_more G (share G m.size m.block d) a)
+          ∙ sum_more G (share G m.size m.block d) a c.loop-a.sum w.block_or_zero-then-b-a.result c.loop-a.invariant
+          (w.block_or_zero-then-b-a.ensures ∙ got m a b (of m.block a b) G.none la lb (c.requires a la) (c.requires b lb) ∙ of_le m.block a b l
+          ∙ ap (m.block a) eb ∙ sym (cond-true (leb (mate m.size d a) a) (m.block a (mate m.size d a)) G.none (e ∙ le-leb b a l)))
       | else-b-a w ↦ let l : a < b = w.if-b-a.false in
-          w.sum-is ∙ c.loop-a.invariant ∙ sym (G.unit (sum_to G (share G m.size m.block d) a))
-          ∙ ap (G.sum (sum_to G (share G m.size m.block d) a))
-          (sym (cond-false (leb (mate m.size d a) a) (m.block a (mate m.size d a)) G.none (lt-leb (mate m.size d a) a (omega (arith, eb, l)))))
-          ∙ sym (sum_more G (share G m.size m.block d) a)
+          w.sum-is ∙ sum_skip G (share G m.size m.block d) a c.loop-a.sum c.loop-a.invariant
+          (cond-false (leb (mate m.size d a) a) (m.block a (mate m.size d a)) G.none (e ∙ lt-leb b a l))
     ]
 
 -- the sum over all stations is the diagonal

@@ -4,9 +4,5 @@ use Rattle.recovery.proofs.absent.absent_marks.Goals as goal
 
 pub loop-s-preserved : goal.loop-s-preserved
 loop-s-preserved g c k =
-    let n : c.loop-s.s < 32 = omega (arith, c.number-n.ensures.prime.1) in
-    c.with-absent.ensures.marks n k ∙ grind (arith, nat_tests, c.loop-s.invariant k, c.is_absent.ensures)
-
-pub returns : goal.returns
-returns g c k =
-    c.loop-s.invariant k ∙ grind (arith, nat_tests)
+    let n : c.loop-s.s < 32 = omega (arith, c.number-s-end.ensures.prime.1) in
+    c.with-absent.ensures.marks n k ∙ grind (arith, nat_tests, c.loop-s.invariant k, c.is_out.ensures)

@@ -1,12 +1,10 @@
-use Rattle.std.proofs.Common.{ap, ◌∙◌, arith}
-use Rattle.std.proofs.lemmas.Bool.Decides.{nat_tests}
-use Rattle.code.specs.Marks.{marked}
-use Rattle.code.specs.Rebuilt.{absentees}
-use Rattle.code.proofs.Absent.{absentees_cong}
+use Rattle.std.proofs.Common.{rules, ◌∙◌}
+use Rattle.recovery.proofs.Counted.{more, counted}
 use Rattle.recovery.proofs.absent.count_absent.Goals as goal
 
 pub returns : goal.returns
 returns g c =
-    c.count_marks.ensures
-    ∙ ap (absentees (marked c.absent_marks.result.bits)) (c.number.ensures.same ∙ c.size.ensures)
-    ∙ absentees_cong (g.S.ReadStore.means c.args.store.now).size (λ s l. c.absent_marks.ensures s ∙ grind (arith, nat_tests))
+    let m = g.S.ReadStore.means c.args.store.now in
+    let p = c.count.ensures.runs in
+    let q = c.filter.ensures.runs p.0 p.0.seen p.1 in
+    p.3 ∙ q.2.5 (more m.out m.size) (λ x b f k called. search rules) ∙ counted m.out m.size c.number.result (c.number.ensures.same ∙ c.size.ensures) q.0 q.1 (q.2.0 ∙ p.2)

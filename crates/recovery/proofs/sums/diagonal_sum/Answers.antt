@@ -5,14 +5,14 @@ use Rattle.code.specs.Rules.{diagonal}
 use Rattle.code.proofs.Diagonals.{share, mate, diagonal_shares}
 use Rattle.code.proofs.Rows.{of_le}
 use Rattle.code.proofs.Steps.{sum_more, sum_skip}
-use Rattle.recovery.specs.Recovery.{standing}
+use Rattle.store.specs.Standing.{standing}
 use Rattle.recovery.proofs.sums.diagonal_sum.Goals as goal
 use Rattle.recovery.proofs.sums.diagonal_sum.Goals.{then-b-a, else-b-a}
 
 pub loop-a-preserved : goal.loop-a-preserved
 loop-a-preserved g c =
     let G = g.S.Block.BlockKind.group in
-    let f = standing G (g.S.ReadStore.means c.args.store.now) c.args.absent.bits in
+    let f = standing G (g.S.ReadStore.means c.args.store.now) in
     let a = c.loop-a.a in
     let b : ℕ = mate c.number-n.result c.args.m a in
     let term = share G c.number-n.result f c.args.m in
@@ -24,9 +24,9 @@ loop-a-preserved g c =
 pub returns : goal.returns
 returns g c =
     let G = g.S.Block.BlockKind.group in
-    let f = standing G (g.S.ReadStore.means c.args.store.now) c.args.absent.bits in
+    let f = standing G (g.S.ReadStore.means c.args.store.now) in
     let n = c.number-n.result in
     let e : n ≡ (g.S.ReadStore.means c.args.store.now).size = c.number-n.ensures.same ∙ c.size.ensures in
-    let l : c.args.m < n = omega (arith, c.requires.below) in
+    let l : c.args.m < n = omega (arith, c.requires) in
     let d : c.loop-a.a ≡ n = omega arith in
     c.loop-a.invariant ∙ ap (sum_to G (share G n f c.args.m)) d ∙ sym (diagonal_shares G n f c.args.m l) ∙ ap (λ x. diagonal G x f c.args.m) e
