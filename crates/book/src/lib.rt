@@ -3,6 +3,7 @@
 
 mod abandons;
 pub mod books;
+mod checks;
 mod fills;
 mod opens;
 mod reads;
@@ -10,4 +11,4 @@ pub mod tickets;
 mod writes;
 
 pub use books::Book;
-pub use tickets::{FullTicket, OpenTicket, Ticket};
+pub use tickets::{FullTicket, OpenTicket, Ticket, TicketOf};

@@ -1,17 +1,15 @@
 // Opening a book.
 ghost use Rattle.std.specs.Prelude.{◌≡◌, ◌+◌, ◌<◌};
+ghost use Rattle.book.specs.Books.{state_of};
 ghost use Rattle.state.specs.Calls.{open_answer, Opened};
-ghost use Rattle.state.specs.Opens.{AllIn, RowCleared, RowsCleared};
-ghost use Rattle.state.specs.States.{state};
+ghost use Rattle.state.specs.Opens.{RowCleared, RowsCleared};
 ghost use Rattle.code.specs.Sizes.{OddPrime};
-ghost use Rattle.store.specs.Meaning.{After};
+ghost use Rattle.store.specs.Meaning.{After, AllIn};
 
 use crate::books::Book;
 use audit::first_absent;
-use code::Marks;
 use faults::Fault;
 use kinds::BlockKind;
-use state::Filling;
 use store::{ReadStore, WriteStore};
 
 // Puts zero at the pairs of a with stations up to a.
@@ -21,7 +19,7 @@ fn clear_row<S: WriteStore>(store: &mut S, a: u8)
     requires small { a < 31 }
     ensures { RowCleared S.Block.group (S.means store.old) a (a + 1) (S.means store.new) }
 {
-    for b in 0..a + 1 {
+    for b in 0..=a {
         // No station is out, so this is not refused.
         let _ = store.put(a, b, S::Block::zero());
     }
@@ -41,14 +39,14 @@ fn clear<S: WriteStore>(store: &mut S)
 impl<S: WriteStore> Book<S> {
     // Zero blocks everywhere, and no filling. Refused by 2 b, with the smallest station that is out.
     pub fn open(&mut self) -> Result<(), Fault>
-        ensures answer { result ≡ open_answer (state (S.means self.old.store) self.old.filling) }
-        ensures after { After result (Opened S.Block.group (state (S.means self.old.store) self.old.filling) (state (S.means self.new.store) self.new.filling)) (state (S.means self.new.store) self.new.filling ≡ state (S.means self.old.store) self.old.filling) }
+        ensures answer { result ≡ open_answer (state_of S.means self.old) }
+        ensures after { After result (Opened S.Block.group (state_of S.means self.old) (state_of S.means self.new)) (state_of S.means self.new ≡ state_of S.means self.old) }
     {
-        if let Some(s) = first_absent(&self.store, Marks::none()) {
+        if let Some(s) = first_absent(&self.store) {
             return Err(Fault::OutAtOpen(s));
         }
         clear(&mut self.store);
-        self.filling = Filling::Idle;
+        self.filling = None;
         Ok(())
     }
 }

@@ -1,5 +1,5 @@
 -- Each accepted call keeps a book matched with the tally.
-use Rattle.std.proofs.Common.{◌≡◌, ℕ, ◌+◌, ◌<◌, min, max, Bool, true, false, cond, ◌||◌, eqb, ltb, ◌≢◌, ◌⊎◌, sym, refl, ap, ◌∙◌, subst, ap₂, inl, inr, arith}
+use Rattle.std.proofs.Common.{◌≡◌, ℕ, ◌+◌, ◌<◌, min, max, Bool, true, false, cond, ◌||◌, eqb, ltb, ◌≢◌, ◌⊎◌, Some, None, Option, sym, refl, ap, ◌∙◌, subst, ap₂, inl, inr, arith}
 use Rattle.std.proofs.lemmas.Bool.{cases_eq, cases_Bool, cases_lt, both_ways, eq-eqb, ne_eqb, or_parts, or_from, ltb-false, lt-ltb, le-ltb}
 use Rattle.kinds.specs.Group.{Group}
 use Rattle.code.specs.Rules.{of, Codeword}
@@ -11,10 +11,9 @@ use Rattle.store.specs.Meaning.{Meaning, Written, Remarked}
 use Rattle.state.specs.Calls.{too_many, Opened, Filled, FilledNext}
 use Rattle.state.specs.Fillings.{stepped}
 use Rattle.serve.specs.Matches.{Matches, FilledPairs}
-use Rattle.state.specs.States.{State, state, size_of, absent, absent_count, being_filled, Sound, SoundAt}
+use Rattle.state.specs.States.{State, state, size_of, absent, absent_count, being_filled, filling_at, Sound, SoundAt}
 use Rattle.serve.specs.Tally.{Tally, at_start, turned}
 use Rattle.state.specs.declared.records.Filling.{Filling}
-use Rattle.state.specs.declared.records.Filling.TheVariants.{Idle, At}
 
 module _ {B : Type 0} (G : Group B) (t : Tally B) (st : State B) (M : Matches G t st) where
   -- a new store and record with the same last writes
@@ -35,12 +34,12 @@ module _ {B : Type 0} (G : Group B) (t : Tally B) (st : State B) (M : Matches G 
   }
 
 -- a station that is out or being filled is absent
-out_absent : {B : Type 0} (m : Meaning B) (f : Filling) (s : ℕ) → absent (state m f) s ≡ false → (m.out s ≡ false) × (being_filled f s ≡ false)
+out_absent : {B : Type 0} (m : Meaning B) (f : Option Filling) (s : ℕ) → absent (state m f) s ≡ false → (m.out s ≡ false) × (being_filled f s ≡ false)
 out_absent m f s e = or_parts (m.out s) (being_filled f s) e
 
 module _ {B : Type 0} (G : Group B) (t : Tally B) (m m' : Meaning B) (s : ℕ) where
   -- s was lost
-  pub keep_lose : (f : Filling) → Matches G t (state m f) → absent (state m f) s ≡ false → Remarked m s true m'
+  pub keep_lose : (f : Option Filling) → Matches G t (state m f) → absent (state m f) s ≡ false → Remarked m s true m'
       → Matches G (record { absent = turned t.absent s true; filling = t.filling; last = t.last }) (state m' f)
   keep_lose f M here r =
       rematch G t (state m f) M (record { absent = turned t.absent s true; filling = t.filling; last = t.last }) (state m' f) r.size refl gone M.filling (sound f M.sound here) standing (filled f M.sound here M.filled)
@@ -54,13 +53,14 @@ module _ {B : Type 0} (G : Group B) (t : Tally B) (m m' : Meaning B) (s : ℕ) w
         | inr d ↦ let p : eqb k s ≡ false = ne_eqb k s d in rw (now_out k l, p) (M.gone k l)
       ]
 
-      sound : (f : Filling) → Sound (state m f) → absent (state m f) s ≡ false → Sound (state m' f)
-      sound Idle w h = tt
-      sound (At u k) w h =
-          let d : u ≢ s = (λ e. both_ways (eqb s u) (out_absent m (At u k) s h).1 (eq-eqb s u (sym e))) in
+      sound : (f : Option Filling) → Sound (state m f) → absent (state m f) s ≡ false → Sound (state m' f)
+      sound None w h = tt
+      sound (Some f) w h =
+          let u = f.station in
+          let d : u ≢ s = (λ e. both_ways (eqb s u) (out_absent m (Some f) s h).1 (eq-eqb s u (sym e))) in
           (omega (arith, r.size, w.0), r.out u w.0 ∙ ap (λ b. cond b true (m.out u)) (ne_eqb u s d) ∙ w.1, omega (arith, r.size, w.2))
 
-      apart : (f : Filling) (k : ℕ) → k < m.size → absent (state m' f) k ≡ false → (k ≢ s) × (absent (state m f) k ≡ false)
+      apart : (f : Option Filling) (k : ℕ) → k < m.size → absent (state m' f) k ≡ false → (k ≢ s) × (absent (state m f) k ≡ false)
       apart f k l h =
           let p = out_absent m' f k h in
           let d : k ≢ s = (λ e. both_ways (m'.out k) p.0 (now_out k l ∙ ap (λ b. cond b true (m.out k)) (eq-eqb k s e))) in
@@ -70,40 +70,41 @@ module _ {B : Type 0} (G : Group B) (t : Tally B) (m m' : Meaning B) (s : ℕ) w
       standing p q lp lq hp hq =
           r.others p q lp lq (apart f p lp hp).0 (apart f q lq hq).0 ∙ M.standing p q lp lq ((apart f p lp hp).1, (apart f q lq hq).1)
 
-      filled : (f : Filling) → Sound (state m f) → absent (state m f) s ≡ false → FilledPairs (absent (state m f)) m.block M.word f → FilledPairs (absent (state m' f)) m'.block M.word f
-      filled Idle w h F = tt
-      filled (At u k) w h F = λ q lq c.
+      filled : (f : Option Filling) → Sound (state m f) → absent (state m f) s ≡ false → FilledPairs (absent (state m f)) m.block M.word f → FilledPairs (absent (state m' f)) m'.block M.word f
+      filled None w h F = tt
+      filled (Some f) w h F = λ q lq c.
+          let u = f.station in
           let lqn : q < m.size = omega (arith, w.2) in
-          let d : u ≢ s = (λ e. both_ways (eqb s u) (out_absent m (At u k) s h).1 (eq-eqb s u (sym e))) in
+          let d : u ≢ s = (λ e. both_ways (eqb s u) (out_absent m (Some f) s h).1 (eq-eqb s u (sym e))) in
           elim c [
-            | inl e ↦ r.others u q w.0 lqn d (apart (At u k) q lqn e).0 ∙ F q lq (inl (apart (At u k) q lqn e).1)
+            | inl e ↦ r.others u q w.0 lqn d (apart (Some f) q lqn e).0 ∙ F q lq (inl (apart (Some f) q lqn e).1)
             | inr e ↦ r.others u q w.0 lqn d (λ x. d (sym e ∙ x)) ∙ F q lq (inr e)
           ]
 
   -- s was fitted
-  pub keep_fit : Matches G t (state m Idle) → s < m.size → m.out s ≡ true → Remarked m s false m'
-      → Matches G (record { absent = t.absent; filling = At s 0; last = t.last }) (state m' (At s 0))
+  pub keep_fit : Matches G t (state m None) → s < m.size → m.out s ≡ true → Remarked m s false m'
+      → Matches G (record { absent = t.absent; filling = filling_at s 0; last = t.last }) (state m' (filling_at s 0))
   keep_fit M ls o r =
-      rematch G t (state m Idle) M (record { absent = t.absent; filling = At s 0; last = t.last }) (state m' (At s 0)) r.size refl (λ k l. M.gone k l ∙ same k l) refl
+      rematch G t (state m None) M (record { absent = t.absent; filling = filling_at s 0; last = t.last }) (state m' (filling_at s 0)) r.size refl (λ k l. M.gone k l ∙ same k l) refl
       (omega (arith, r.size), r.out s ls ∙ ap (λ b. cond b false (m.out s)) (eq-eqb s s refl), omega arith) standing (λ q l. absurd (omega arith))
     where
-      same : (k : ℕ) → k < m.size → absent (state m Idle) k ≡ absent (state m' (At s 0)) k
+      same : (k : ℕ) → k < m.size → absent (state m None) k ≡ absent (state m' (filling_at s 0)) k
       same k l = elim (cases_eq k s) [
         | inl e ↦ let p : eqb k s ≡ true = eq-eqb k s e in let q : m.out k ≡ true = ap m.out e ∙ o in rw (r.out k l, p, q)
         | inr d ↦ let p : eqb k s ≡ false = ne_eqb k s d in rw (r.out k l, p)
       ]
 
-      standing : (p q : ℕ) → p < m.size → q < m.size → absent (state m' (At s 0)) p ≡ false → absent (state m' (At s 0)) q ≡ false → of m'.block p q ≡ of M.word p q
+      standing : (p q : ℕ) → p < m.size → q < m.size → absent (state m' (filling_at s 0)) p ≡ false → absent (state m' (filling_at s 0)) q ≡ false → of m'.block p q ≡ of M.word p q
       standing p q lp lq hp hq =
-          r.others p q lp lq (λ e. both_ways (eqb p s) (out_absent m' (At s 0) p hp).1 (eq-eqb p s e)) (λ e. both_ways (eqb q s) (out_absent m' (At s 0) q hq).1 (eq-eqb q s e))
+          r.others p q lp lq (λ e. both_ways (eqb p s) (out_absent m' (filling_at s 0) p hp).1 (eq-eqb p s e)) (λ e. both_ways (eqb q s) (out_absent m' (filling_at s 0) q hq).1 (eq-eqb q s e))
           ∙ M.standing p q lp lq (same p lp ∙ hp, same q lq ∙ hq)
 
   -- the filling of s was abandoned
-  pub keep_abandon : (k : ℕ) → Matches G t (state m (At s k)) → Remarked m s true m' → Matches G (record { absent = t.absent; filling = Idle; last = t.last }) (state m' Idle)
+  pub keep_abandon : (k : ℕ) → Matches G t (state m (filling_at s k)) → Remarked m s true m' → Matches G (record { absent = t.absent; filling = None; last = t.last }) (state m' None)
   keep_abandon k M r =
-      rematch G t (state m (At s k)) M (record { absent = t.absent; filling = Idle; last = t.last }) (state m' Idle) r.size refl (λ j l. M.gone j l ∙ same j l) refl tt standing tt
+      rematch G t (state m (filling_at s k)) M (record { absent = t.absent; filling = None; last = t.last }) (state m' None) r.size refl (λ j l. M.gone j l ∙ same j l) refl tt standing tt
     where
-      same : (j : ℕ) → j < m.size → absent (state m (At s k)) j ≡ absent (state m' Idle) j
+      same : (j : ℕ) → j < m.size → absent (state m (filling_at s k)) j ≡ absent (state m' None) j
       same j l = elim (cases_eq j s) [
         | inl e ↦ let p : eqb j s ≡ true = eq-eqb j s e in rw (r.out j l, p) (or_true (m.out j))
         | inr d ↦ let p : eqb j s ≡ false = ne_eqb j s d in rw (r.out j l, p)
@@ -113,33 +114,33 @@ module _ {B : Type 0} (G : Group B) (t : Tally B) (m m' : Meaning B) (s : ℕ) w
           or_true true = refl
           or_true false = refl
 
-      standing : (p q : ℕ) → p < m.size → q < m.size → absent (state m' Idle) p ≡ false → absent (state m' Idle) q ≡ false → of m'.block p q ≡ of M.word p q
+      standing : (p q : ℕ) → p < m.size → q < m.size → absent (state m' None) p ≡ false → absent (state m' None) q ≡ false → of m'.block p q ≡ of M.word p q
       standing p q lp lq hp hq =
-          let a : absent (state m (At s k)) p ≡ false = same p lp ∙ hp in
-          let b : absent (state m (At s k)) q ≡ false = same q lq ∙ hq in
-          r.others p q lp lq (λ e. both_ways (eqb p s) (out_absent m (At s k) p a).1 (eq-eqb p s e)) (λ e. both_ways (eqb q s) (out_absent m (At s k) q b).1 (eq-eqb q s e))
+          let a : absent (state m (filling_at s k)) p ≡ false = same p lp ∙ hp in
+          let b : absent (state m (filling_at s k)) q ≡ false = same q lq ∙ hq in
+          r.others p q lp lq (λ e. both_ways (eqb p s) (out_absent m (filling_at s k) p a).1 (eq-eqb p s e)) (λ e. both_ways (eqb q s) (out_absent m (filling_at s k) q b).1 (eq-eqb q s e))
           ∙ M.standing p q lp lq (a, b)
 
 module _ {B : Type 0} (G : Group B) (t : Tally B) (m : Meaning B) (s : ℕ) where
   -- the station s, filled with all partners, stands
-  pub keep_finish : Matches G t (state m (At s m.size)) → Matches G (record { absent = turned t.absent s false; filling = Idle; last = t.last }) (state m Idle)
+  pub keep_finish : Matches G t (state m (filling_at s m.size)) → Matches G (record { absent = turned t.absent s false; filling = None; last = t.last }) (state m None)
   keep_finish M =
-      rematch G t (state m (At s m.size)) M (record { absent = turned t.absent s false; filling = Idle; last = t.last }) (state m Idle) refl refl gone refl tt standing tt
+      rematch G t (state m (filling_at s m.size)) M (record { absent = turned t.absent s false; filling = None; last = t.last }) (state m None) refl refl gone refl tt standing tt
     where
-      was : (k : ℕ) → k ≢ s → absent (state m Idle) k ≡ false → absent (state m (At s m.size)) k ≡ false
-      was k d h = or_from (m.out k) (eqb k s) (out_absent m Idle k h).0 (ne_eqb k s d)
+      was : (k : ℕ) → k ≢ s → absent (state m None) k ≡ false → absent (state m (filling_at s m.size)) k ≡ false
+      was k d h = or_from (m.out k) (eqb k s) (out_absent m None k h).0 (ne_eqb k s d)
 
-      gone : (k : ℕ) → k < m.size → turned t.absent s false k ≡ absent (state m Idle) k
+      gone : (k : ℕ) → k < m.size → turned t.absent s false k ≡ absent (state m None) k
       gone k l = elim (cases_eq k s) [
         | inl e ↦ let p : eqb k s ≡ true = eq-eqb k s e in let q : m.out k ≡ false = ap m.out e ∙ M.sound.1 in rw (p, q)
         | inr d ↦ let p : eqb k s ≡ false = ne_eqb k s d in let h : t.absent k ≡ (m.out k || eqb k s) = M.gone k l in rw (p, h, p)
       ]
 
       -- a pair of s
-      with_s : (q : ℕ) → q < m.size → absent (state m Idle) q ≡ false → of m.block s q ≡ of M.word s q
+      with_s : (q : ℕ) → q < m.size → absent (state m None) q ≡ false → of m.block s q ≡ of M.word s q
       with_s q l h = elim (cases_eq q s) [ inl e ↦ M.filled q l (inr e) | inr d ↦ M.filled q l (inl (was q d h)) ]
 
-      standing : (p q : ℕ) → p < m.size → q < m.size → absent (state m Idle) p ≡ false → absent (state m Idle) q ≡ false → of m.block p q ≡ of M.word p q
+      standing : (p q : ℕ) → p < m.size → q < m.size → absent (state m None) p ≡ false → absent (state m None) q ≡ false → of m.block p q ≡ of M.word p q
       standing p q lp lq hp hq = elim (cases_eq p s) [
         | inl e ↦ ap (λ x. of m.block x q) e ∙ with_s q lq hq ∙ ap (λ x. of M.word x q) (sym e)
         | inr d ↦ elim (cases_eq q s) [
@@ -148,14 +149,14 @@ module _ {B : Type 0} (G : Group B) (t : Tally B) (m : Meaning B) (s : ℕ) wher
         ]
       ]
 
-module _ {B : Type 0} (G : Group B) (t : Tally B) (m m' : Meaning B) (s k : ℕ) (M : Matches G t (state m (At s k))) where
+module _ {B : Type 0} (G : Group B) (t : Tally B) (m m' : Meaning B) (s k : ℕ) (M : Matches G t (state m (filling_at s k))) where
   -- one more pair of s was filled
-  module _ (lk : k < m.size) (few : too_many (state m (At s k)) ≡ false) (F : Filled G (state m (At s k)) s k m') where
+  module _ (lk : k < m.size) (few : too_many (state m (filling_at s k)) ≡ false) (F : Filled G (state m (filling_at s k)) s k m') where
     abbrev before : State B
-    before = state m (At s k)
+    before = state m (filling_at s k)
 
     abbrev after : State B
-    after = state m' (At s (k + 1))
+    after = state m' (filling_at s (k + 1))
 
     ls : s < m.size
     ls = M.sound.0
@@ -186,7 +187,7 @@ module _ {B : Type 0} (G : Group B) (t : Tally B) (m m' : Meaning B) (s k : ℕ)
     here e = (F.put e).here ∙ right
 
     not_s : (j : ℕ) → absent before j ≡ false → j ≢ s
-    not_s j h e = both_ways (eqb j s) (out_absent m (At s k) j h).1 (eq-eqb j s e)
+    not_s j h e = both_ways (eqb j s) (out_absent m (filling_at s k) j h).1 (eq-eqb j s e)
 
     standing : (p q : ℕ) → p < m.size → q < m.size → absent after p ≡ false → absent after q ≡ false → of m'.block p q ≡ of M.word p q
     standing p q lp lq hp hq =
@@ -207,7 +208,7 @@ module _ {B : Type 0} (G : Group B) (t : Tally B) (m m' : Meaning B) (s k : ℕ)
         lqn = omega arith
 
         inside : (absent after q ≡ false) ⊎ (q ≡ s) → m.out q ≡ false
-        inside (inl h) = (out_absent m (At s k) q (same q lqn ∙ h)).0
+        inside (inl h) = (out_absent m (filling_at s k) q (same q lqn ∙ h)).0
         inside (inr e) = ap m.out e ∙ M.sound.1
 
         was : (absent after q ≡ false) ⊎ (q ≡ s) → (absent before q ≡ false) ⊎ (q ≡ s)
@@ -217,26 +218,26 @@ module _ {B : Type 0} (G : Group B) (t : Tally B) (m m' : Meaning B) (s k : ℕ)
         other : (q : ℕ) → max s q ≡ max s k → min s q ≡ min s k → q ≡ k
         other q x y = omega arith
 
-    pub keep_step : Matches G (record { absent = t.absent; filling = At s (k + 1); last = t.last }) (state m' (At s (k + 1)))
+    pub keep_step : Matches G (record { absent = t.absent; filling = filling_at s (k + 1); last = t.last }) (state m' (filling_at s (k + 1)))
     keep_step =
-        rematch G t before M (record { absent = t.absent; filling = At s (k + 1); last = t.last }) after frame.size refl (λ j l. M.gone j l ∙ same j l) refl
+        rematch G t before M (record { absent = t.absent; filling = filling_at s (k + 1); last = t.last }) after frame.size refl (λ j l. M.gone j l ∙ same j l) refl
         (omega (arith, frame.size, M.sound.0), frame.out s ls ∙ M.sound.1, omega (arith, frame.size)) standing filled
 
   -- a fill that is accepted
-  pub keep_fill : too_many (state m (At s k)) ≡ false → FilledNext G (state m (At s k)) (At s k) m'
-      → Matches G (record { absent = t.absent; filling = stepped m.size t.filling; last = t.last }) (state m' (stepped m.size (At s k)))
+  pub keep_fill : too_many (state m (filling_at s k)) ≡ false → FilledNext G (state m (filling_at s k)) (filling_at s k) m'
+      → Matches G (record { absent = t.absent; filling = stepped m.size t.filling; last = t.last }) (state m' (stepped m.size (filling_at s k)))
   keep_fill few F = elim (cases_lt k m.size) [
     | inl l ↦ let b : ltb k m.size ≡ true = lt-ltb k m.size l in
-        subst (λ f. Matches G (record { absent = t.absent; filling = f; last = t.last }) (state m' (cond (ltb k m.size) (At s (k + 1)) (At s k)))) (sym (ap (stepped m.size) M.filling))
-        (subst (λ c. Matches G (record { absent = t.absent; filling = cond c (At s (k + 1)) (At s k); last = t.last }) (state m' (cond c (At s (k + 1)) (At s k)))) (sym b) (keep_step l few (F.0 l)))
+        subst (λ f. Matches G (record { absent = t.absent; filling = f; last = t.last }) (state m' (cond (ltb k m.size) (filling_at s (k + 1)) (filling_at s k)))) (sym (ap (stepped m.size) M.filling))
+        (subst (λ c. Matches G (record { absent = t.absent; filling = cond c (filling_at s (k + 1)) (filling_at s k); last = t.last }) (state m' (cond c (filling_at s (k + 1)) (filling_at s k)))) (sym b) (keep_step l few (F.0 l)))
     | inr l ↦ let b : ltb k m.size ≡ false = le-ltb k m.size l in
-        subst (λ f. Matches G (record { absent = t.absent; filling = f; last = t.last }) (state m' (cond (ltb k m.size) (At s (k + 1)) (At s k)))) (sym (ap (stepped m.size) M.filling))
-        (subst (λ c. Matches G (record { absent = t.absent; filling = cond c (At s (k + 1)) (At s k); last = t.last }) (state m' (cond c (At s (k + 1)) (At s k)))) (sym b)
-        (subst (λ x. Matches G (record { absent = t.absent; filling = At s k; last = t.last }) (state x (At s k))) (sym (F.1 l)) (still M)))
+        subst (λ f. Matches G (record { absent = t.absent; filling = f; last = t.last }) (state m' (cond (ltb k m.size) (filling_at s (k + 1)) (filling_at s k)))) (sym (ap (stepped m.size) M.filling))
+        (subst (λ c. Matches G (record { absent = t.absent; filling = cond c (filling_at s (k + 1)) (filling_at s k); last = t.last }) (state m' (cond c (filling_at s (k + 1)) (filling_at s k)))) (sym b)
+        (subst (λ x. Matches G (record { absent = t.absent; filling = filling_at s k; last = t.last }) (state x (filling_at s k))) (sym (F.1 l)) (still M)))
   ]
     where
-      still : Matches G t (state m (At s k)) → Matches G (record { absent = t.absent; filling = At s k; last = t.last }) (state m (At s k))
-      still M = rematch G t (state m (At s k)) M (record { absent = t.absent; filling = At s k; last = t.last }) (state m (At s k)) refl refl M.gone refl M.sound (λ p q lp lq hp hq. M.standing p q lp lq (hp, hq)) M.filled
+      still : Matches G t (state m (filling_at s k)) → Matches G (record { absent = t.absent; filling = filling_at s k; last = t.last }) (state m (filling_at s k))
+      still M = rematch G t (state m (filling_at s k)) M (record { absent = t.absent; filling = filling_at s k; last = t.last }) (state m (filling_at s k)) refl refl M.gone refl M.sound (λ p q lp lq hp hq. M.standing p q lp lq (hp, hq)) M.filled
 
 module _ {B : Type 0} (G : Group B) (st st' : State B) where
   -- a book that was just opened

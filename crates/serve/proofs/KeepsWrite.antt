@@ -1,5 +1,5 @@
 -- An accepted write keeps a book matched with the tally.
-use Rattle.std.proofs.Common.{◌≡◌, ℕ, ◌+◌, ◌<◌, ◌≤◌, min, max, Bool, true, false, cond, ◌&&◌, ◌||◌, eqb, sym, refl, ap, ◌∙◌, subst, ap₂, inl, inr, arith}
+use Rattle.std.proofs.Common.{◌≡◌, ℕ, ◌+◌, ◌<◌, ◌≤◌, min, max, Bool, true, false, cond, ◌&&◌, ◌||◌, eqb, Some, None, Option, sym, refl, ap, ◌∙◌, subst, ap₂, inl, inr, arith}
 use Rattle.std.proofs.lemmas.Bool.{cases_eq, eq-eqb, ne_eqb, or_parts, cond-false, and_left, and_right}
 use Rattle.kinds.specs.Group.{Group}
 use Rattle.code.specs.Rules.{Blocks, of, Codeword}
@@ -13,7 +13,6 @@ use Rattle.serve.specs.Matches.{Matches, FilledPairs}
 use Rattle.state.specs.States.{State, size_of, absent, absent_count, being_filled, SoundAt}
 use Rattle.serve.specs.Tally.{Tally, DataPair}
 use Rattle.state.specs.declared.records.Filling.{Filling}
-use Rattle.state.specs.declared.records.Filling.TheVariants.{Idle, At}
 
 module _ {B : Type 0} (G : Group B) (t : Tally B) (st st' : State B) (a b : ℕ) (x : B) (M : Matches G t st) (few : absent_count st ≤ 2) (la : a < size_of st) (lb : b < size_of st) (W : Wrote G st a b x st') where
   open G use {none, sum as ◌⊕◌}
@@ -80,18 +79,19 @@ module _ {B : Type 0} (G : Group B) (t : Tally B) (st st' : State B) (a b : ℕ)
     | inr g ↦ kept p q dp.0 dp.1 (λ h. g h.0) ∙ M.last p q lp lq dp ∙ sym (cond-false (eqb (max p q) (max a b) && eqb (min p q) (min a b)) x (of t.last p q) (and_left (eqb (max p q) (max a b)) (eqb (min p q) (min a b)) (ne_eqb (max p q) (max a b) g)))
   ]
 
-  pairs_filled : (f : Filling) → SoundAt (size_of st) st.store.out f → FilledPairs (absent st) st.store.block M.word f → FilledPairs (absent st') st'.store.block word' f
-  pairs_filled Idle w F = tt
-  pairs_filled (At u k) w F = λ q lq c.
+  pairs_filled : (f : Option Filling) → SoundAt (size_of st) st.store.out f → FilledPairs (absent st) st.store.block M.word f → FilledPairs (absent st') st'.store.block word' f
+  pairs_filled None w F = tt
+  pairs_filled (Some f) w F = λ q lq c.
+      let u = f.station in
       let lqn : q < size_of st = omega (arith, w.2) in
       elim c [
         | inl h ↦ follows u q w.0 lqn w.1 (inside q (same q lqn ∙ h)) (F q lq (inl (same q lqn ∙ h)))
         | inr e ↦ follows u q w.0 lqn w.1 (ap st.store.out e ∙ w.1) (F q lq (inr e))
       ]
 
-  sound_same : (f : Filling) → SoundAt (size_of st) st.store.out f → SoundAt (size_of st') st'.store.out f
-  sound_same Idle w = tt
-  sound_same (At u k) w = (omega (arith, W.size, w.0), W.out u w.0 ∙ w.1, omega (arith, W.size, w.2))
+  sound_same : (f : Option Filling) → SoundAt (size_of st) st.store.out f → SoundAt (size_of st') st'.store.out f
+  sound_same None w = tt
+  sound_same (Some f) w = (omega (arith, W.size, w.0), W.out f.station w.0 ∙ w.1, omega (arith, W.size, w.2))
 
   pub keep_write : Matches G (record { absent = t.absent; filling = t.filling; last = λ p q. cond (eqb p (max a b) && eqb q (min a b)) x (t.last p q) }) st'
   keep_write = record {

@@ -3,4 +3,3 @@ pub mod KeepsWrite
 pub mod Turned
 pub mod Refused
 pub mod Pushed
-pub mod Parts

@@ -1,9 +1,8 @@
 -- A promise over a list of calls goes on with one call more.
-use Rattle.std.proofs.Common.{◌≡◌, ℕ, ◌<◌, List, [], ◌∷◌, ◌++◌, length, get_or, set, sym, refl, ap, ◌∙◌, subst}
-use Rattle.std.proofs.lemmas.List.{map-set, get_or-map, set-get_or}
+use Rattle.std.proofs.Common.{◌≡◌, ℕ, List, [], ◌∷◌, ◌++◌, sym, refl, ap, ◌∙◌, subst}
 use Rattle.kinds.specs.Group.{Group}
 use Rattle.store.specs.Meaning.{Meaning}
-use Rattle.serve.specs.Matches.{Matches, CarriesOn, Tells, calls_of}
+use Rattle.serve.specs.Matches.{Matches, CarriesOn, Tells}
 use Rattle.state.specs.States.{State, size_of}
 use Rattle.serve.specs.Tally.{Tally, Promise, Promised, Holds, tallied, tally_after}
 use Rattle.serve.specs.declared.turns.Turn.{Turn}
@@ -69,10 +68,3 @@ tell_more G most st st₁ st₂ xs last c d h t M =
     let p = c t M in
     let e : size_of st₁ ≡ size_of st = promise_size G most xs t st.store st₁.store p.0 in
     told_push (size_of st) most last xs t (d t M) (subst (λ n. Told n most (tally_after (size_of st) t xs) last.call last.answer) e (told G (tally_after (size_of st) t xs) st₁ p.1 most last.call last.answer st₂ h))
-
--- an answer laid beside its call leaves the calls
-pub calls_stay : {B : Type 0} (turns : List (Turn B)) (i : ℕ) (y d : Turn B) → i < length turns → y.call ≡ (get_or turns i d).call → calls_of (set turns i y) ≡ calls_of turns
-calls_stay turns i y d l e =
-    map-set (λ turn. turn.call) turns i y
-    ∙ ap (set (calls_of turns) i) (e ∙ sym (get_or-map (λ turn. turn.call) turns i d d.call l))
-    ∙ set-get_or (calls_of turns) i d.call

@@ -8,7 +8,6 @@ use Rattle.state.specs.Calls.{data_answer, read_answer, write_answer, lose_answe
 use Rattle.state.specs.Fillings.{next_of}
 use Rattle.state.specs.States.{State, size_of, absent, absent_count, being_filled, SoundAt}
 use Rattle.state.specs.declared.records.Filling.{Filling}
-use Rattle.state.specs.declared.records.Filling.TheVariants.{Idle, At}
 use Rattle.serve.specs.Matches.{Matches}
 use Rattle.serve.specs.Refusals.{absent_now, unless_many, unless_short, data_refusal, out_now, fit_refusal, refusal, granted, by_refusal, Told}
 use Rattle.serve.specs.Tally.{Tally}
@@ -89,7 +88,7 @@ module _ {B : Type 0} (G : Group B) (t : Tally B) (st : State B) (M : Matches G 
   pub out_as : (s : ℕ) → s < n → st.store.out s ≡ out_now n t s
   out_as s l = go st.filling refl ∙ ap₂ (λ f b. cond (being_filled f s) false b) (sym M.filling) (here s l)
     where
-      go : (f : Filling) → st.filling ≡ f → st.store.out s ≡ cond (being_filled f s) false (absent st s)
+      go : (f : Option Filling) → st.filling ≡ f → st.store.out s ≡ cond (being_filled f s) false (absent st s)
       go f e = elim (cases_Bool (being_filled f s)) [
         | inl b ↦ being f e b ∙ sym (ap (λ c. cond c false (absent st s)) b)
         | inr b ↦ sym (ap (λ c. cond c false (absent st s)) b ∙ ap (λ g. st.store.out s || being_filled g s) e ∙ ap (λ c. st.store.out s || c) b ∙ or_none (st.store.out s))
@@ -99,14 +98,14 @@ module _ {B : Type 0} (G : Group B) (t : Tally B) (st : State B) (M : Matches G 
           or_none true = refl
           or_none false = refl
 
-          being : (f : Filling) → st.filling ≡ f → being_filled f s ≡ true → st.store.out s ≡ false
-          being Idle e b = let z : ◌≡◌ {A = ℕ} 0 1 = cc in absurd (omega arith)
-          being (At u k) e b = ap st.store.out (eqb-true s u b) ∙ (subst (SoundAt n st.store.out) e M.sound).1
+          being : (f : Option Filling) → st.filling ≡ f → being_filled f s ≡ true → st.store.out s ≡ false
+          being None e b = let z : ◌≡◌ {A = ℕ} 0 1 = cc in absurd (omega arith)
+          being (Some f) e b = ap st.store.out (eqb-true s f.station b) ∙ (subst (SoundAt n st.store.out) e M.sound).1
 
-  fit_last : (f : Filling) → none_filled st f ≡ outcome (fit_refusal n t f)
+  fit_last : (f : Option Filling) → none_filled st f ≡ outcome (fit_refusal n t f)
   unfolding outcome
-  fit_last Idle = many_as true true refl
-  fit_last (At u k) = refl
+  fit_last None = many_as true true refl
+  fit_last (Some f) = refl
 
   pub fit_as : (s : ℕ) → fit_answer st s ≡ outcome (cond (leb n s) (Some (NoSuchStation s)) (cond (out_now n t s) (fit_refusal n t t.filling) (Some (NotOut s))))
   fit_as s =
@@ -166,8 +165,8 @@ module _ {B : Type 0} (G : Group B) (t : Tally B) (st : State B) (M : Matches G 
   told most (Finish s) (Given y) st' h = absurd h
   told most (Finish s) Accepted st' h = told_granted most (Finish s) (finish_answer st s) (finish_as s) Accepted h.0 refl
   told most (Finish s) Untouched st' h = absurd h
-  told most (Abandon s full) NotMade st' h = inr (tt, refl)
-  told most (Abandon s full) (Refused f) st' h = absurd h
-  told most (Abandon s full) (Given y) st' h = absurd h
-  told most (Abandon s full) Accepted st' h = inl (sym (ap (λ c. cond c Accepted Untouched) (ap (λ f. being_filled f s) M.filling ∙ h.0)))
-  told most (Abandon s full) Untouched st' h = inl (sym (ap (λ c. cond c Accepted Untouched) (ap (λ f. being_filled f s) M.filling ∙ h.0)))
+  told most (Abandon s sort) NotMade st' h = inr (tt, refl)
+  told most (Abandon s sort) (Refused f) st' h = absurd h
+  told most (Abandon s sort) (Given y) st' h = absurd h
+  told most (Abandon s sort) Accepted st' h = inl (sym (ap (λ c. cond c Accepted Untouched) (ap (λ f. being_filled f s) M.filling ∙ h.0)))
+  told most (Abandon s sort) Untouched st' h = inl (sym (ap (λ c. cond c Accepted Untouched) (ap (λ f. being_filled f s) M.filling ∙ h.0)))

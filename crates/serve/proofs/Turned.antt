@@ -1,5 +1,5 @@
 -- One turn: what the call is promised, and that the book still matches the tally.
-use Rattle.std.proofs.Common.{◌≡◌, ℕ, ◌+◌, ◌*◌, ◌<◌, ◌≤◌, min, max, Bool, true, false, cond, ◌&&◌, ◌||◌, eqb, ◌⊎◌, is_ok, Ok, Err, Result, sym, refl, ap, ◌∙◌, subst, ap₂, inl, inr, arith}
+use Rattle.std.proofs.Common.{◌≡◌, ℕ, ◌+◌, ◌*◌, ◌<◌, ◌≤◌, min, max, Bool, true, false, cond, ◌&&◌, ◌||◌, eqb, ◌⊎◌, is_ok, Some, None, Ok, Err, Option, Result, sym, refl, ap, ◌∙◌, subst, ap₂, inl, inr, arith}
 use Rattle.std.proofs.lemmas.Bool.{cases_lt, cases_Bool, both_ways, ltb-true, ltb-false, lt-ltb, and_cases, and_parts, and_from, or_parts, eqb-true, eq-eqb}
 use Rattle.std.proofs.lemmas.Bool.Decides.{nat_tests}
 use Rattle.kinds.specs.Group.{Group}
@@ -12,15 +12,15 @@ use Rattle.code.proofs.Settled.{settled}
 use Rattle.state.specs.Calls.{read_answer, write_answer, lose_answer, none_filled, fit_answer, finish_answer, too_many, FilledNext}
 use Rattle.state.specs.Fillings.{next_of, stepped}
 use Rattle.serve.specs.Matches.{Matches}
-use Rattle.state.specs.States.{State, state, size_of, absent, absent_count, being_filled}
+use Rattle.state.specs.States.{State, state, size_of, absent, absent_count, being_filled, filling_at}
 use Rattle.serve.specs.Tally.{Tally, DataPair, TooMany, IsRefused, Iff, Holds, Promised, tallied, turned, ended}
 use Rattle.serve.specs.Turns.{Made}
 use Rattle.serve.specs.declared.turns.Answer.{Answer}
 use Rattle.serve.specs.declared.turns.Answer.TheVariants.{NotMade, Refused, Given, Accepted, Untouched}
 use Rattle.serve.specs.declared.turns.Call.{Call}
+use Rattle.serve.specs.declared.turns.Sort.{Sort}
 use Rattle.serve.specs.declared.turns.Call.TheVariants.{Write, Read, Lose, Fit, Fill, Finish, Abandon}
 use Rattle.state.specs.declared.records.Filling.{Filling}
-use Rattle.state.specs.declared.records.Filling.TheVariants.{Idle, At}
 use Rattle.state.proofs.Fillings.{fill_fine}
 use Rattle.serve.proofs.Keeps.{keep_lose, keep_fit, keep_fill, keep_finish, keep_abandon}
 use Rattle.serve.proofs.KeepsWrite.{keep_write}
@@ -192,9 +192,9 @@ module _ {B : Type 0} (G : Group B) (most : ℕ) (t : Tally B) (st st' : State B
   fit_has : (s : ℕ) → is_ok (fit_answer st s) ≡ true → (s < size_of st) × (st.store.out s ≡ true)
   fit_has s e = (grind (arith, nat_tests), grind (arith, nat_tests))
 
-  fit_idle : (f : Filling) → is_ok (none_filled st f) ≡ true → f ≡ Idle
-  fit_idle Idle e = refl
-  fit_idle (At u k) e = absurd (both_ways false refl e)
+  fit_idle : (f : Option Filling) → is_ok (none_filled st f) ≡ true → f ≡ None
+  fit_idle None e = refl
+  fit_idle (Some f) e = absurd (both_ways false refl e)
 
   fit_last : (s : ℕ) → is_ok (fit_answer st s) ≡ true → is_ok (none_filled st st.filling) ≡ true
   fit_last s e = grind (arith, nat_tests)
@@ -205,11 +205,11 @@ module _ {B : Type 0} (G : Group B) (most : ℕ) (t : Tally B) (st st' : State B
   turn_fit s (Given y) h = absurd h
   turn_fit s Accepted h =
       let p = fit_has s (ap is_ok h.0) in
-      let idle : st.filling ≡ Idle = fit_idle st.filling (fit_last s (ap is_ok h.0)) in
+      let idle : st.filling ≡ None = fit_idle st.filling (fit_last s (ap is_ok h.0)) in
       record {
         promised = tt;
         size = h.1.size;
-        matched = subst (λ f. Matches G (record { absent = t.absent; filling = At s 0; last = t.last }) (state st'.store f)) (sym h.2)
+        matched = subst (λ f. Matches G (record { absent = t.absent; filling = filling_at s 0; last = t.last }) (state st'.store f)) (sym h.2)
             (keep_fit G t st.store st'.store s (subst (λ f. Matches G t (state st.store f)) idle M) p.0 p.1 h.1);
       }
   turn_fit s Untouched h = absurd h
@@ -222,21 +222,21 @@ module _ {B : Type 0} (G : Group B) (most : ℕ) (t : Tally B) (st st' : State B
       let p = fill_fine st (min area most) s (ap is_ok h.0) in
       go st.filling refl p.1 p.2 (h.1 M.sound) h.2
     where
-      go : (f : Filling) → st.filling ≡ f → being_filled f s ≡ true → too_many st ≡ false → FilledNext G st st.filling st'.store → st'.filling ≡ stepped (size_of st) st.filling → KeptTurn G most t st (Fill s area) Accepted st'
-      go Idle e b few F q = absurd (both_ways false refl b)
-      go (At u k) e b few F q =
-          let M' : Matches G t (state st.store (At u k)) = subst (λ f. Matches G t (state st.store f)) e M in
-          let F' : FilledNext G (state st.store (At u k)) (At u k) st'.store = subst (λ f. FilledNext G (state st.store f) f st'.store) e F in
-          let few' : too_many (state st.store (At u k)) ≡ false = subst (λ f. too_many (state st.store f) ≡ false) e few in
-          let K = keep_fill G t st.store st'.store u k M' few' F' in
+      go : (f : Option Filling) → st.filling ≡ f → being_filled f s ≡ true → too_many st ≡ false → FilledNext G st st.filling st'.store → st'.filling ≡ stepped (size_of st) st.filling → KeptTurn G most t st (Fill s area) Accepted st'
+      go None e b few F q = absurd (both_ways false refl b)
+      go (Some f) e b few F q =
+          let M' : Matches G t (state st.store (Some f)) = subst (λ f. Matches G t (state st.store f)) e M in
+          let F' : FilledNext G (state st.store (Some f)) (Some f) st'.store = subst (λ f. FilledNext G (state st.store f) f st'.store) e F in
+          let few' : too_many (state st.store (Some f)) ≡ false = subst (λ f. too_many (state st.store f) ≡ false) e few in
+          let K = keep_fill G t st.store st'.store f.station f.next M' few' F' in
           record {
             promised = tt;
-            size = filled_size (size_of st) (cases_lt k (size_of st)) F';
+            size = filled_size (size_of st) (cases_lt f.next (size_of st)) F';
             matched = subst (λ f. Matches G (record { absent = t.absent; filling = stepped (size_of st) t.filling; last = t.last }) (state st'.store f)) (sym (q ∙ ap (stepped (size_of st)) e)) K;
           }
         where
-          filled_size : (n : ℕ) → (k < size_of st) ⊎ (size_of st ≤ k) → FilledNext G (state st.store (At u k)) (At u k) st'.store → size_of st' ≡ size_of st
-          filled_size n (inl l) F = elim (cases_Bool (st.store.out k)) [
+          filled_size : (n : ℕ) → (f.next < size_of st) ⊎ (size_of st ≤ f.next) → FilledNext G (state st.store (Some f)) (Some f) st'.store → size_of st' ≡ size_of st
+          filled_size n (inl l) F = elim (cases_Bool (st.store.out f.next)) [
             | inl o ↦ ap (λ m. m.size) ((F.0 l).passed o)
             | inr o ↦ ((F.0 l).put o).size
           ]
@@ -252,48 +252,52 @@ module _ {B : Type 0} (G : Group B) (most : ℕ) (t : Tally B) (st st' : State B
   turn_finish s (Given y) h = absurd h
   turn_finish s Accepted h = go st.filling refl (finish_has s (ap is_ok h.0))
     where
-      go : (f : Filling) → st.filling ≡ f → (being_filled f s && eqb (next_of f) (size_of st)) ≡ true → KeptTurn G most t st (Finish s) Accepted st'
-      go Idle e b = absurd (both_ways false refl b)
-      go (At u k) e b =
+      go : (f : Option Filling) → st.filling ≡ f → (being_filled f s && eqb (next_of f) (size_of st)) ≡ true → KeptTurn G most t st (Finish s) Accepted st'
+      go None e b = absurd (both_ways false refl b)
+      go (Some f) e b =
+          let u = f.station in
+          let k = f.next in
           let p = and_parts (eqb s u) (eqb k (size_of st)) b in
           let su : u ≡ s = sym (eqb-true s u p.0) in
           let kn : k ≡ size_of st = eqb-true k (size_of st) p.1 in
-          let at : st.filling ≡ At s (size_of st) = e ∙ ap₂ At su kn in
-          let M' : Matches G t (state st.store (At s (size_of st))) = subst (λ f. Matches G t (state st.store f)) at M in
-          let gone : ended s t.filling ≡ Idle = ap (ended s) (M.filling ∙ at) ∙ ap (λ c. cond c Idle (At s (size_of st))) (eq-eqb s s refl) in
+          let at : st.filling ≡ filling_at s (size_of st) = e ∙ ap₂ filling_at su kn in
+          let M' : Matches G t (state st.store (filling_at s (size_of st))) = subst (λ f. Matches G t (state st.store f)) at M in
+          let gone : ended s t.filling ≡ None = ap (ended s) (M.filling ∙ at) ∙ ap (λ c. cond c None (filling_at s (size_of st))) (eq-eqb s s refl) in
           record {
             promised = tt;
             size = ap (λ m. m.size) h.1;
             matched = subst (λ f. Matches G (record { absent = turned t.absent s false; filling = f; last = t.last }) st') (sym gone)
-                (subst (Matches G (record { absent = turned t.absent s false; filling = Idle; last = t.last })) (sym (ap₂ state h.1 h.2)) (keep_finish G t st.store s M'));
+                (subst (Matches G (record { absent = turned t.absent s false; filling = None; last = t.last })) (sym (ap₂ state h.1 h.2)) (keep_finish G t st.store s M'));
           }
   turn_finish s Untouched h = absurd h
 
-  turn_abandon : (s : ℕ) (full : Bool) (r : Answer B) → Made G most st (Abandon s full) r st' → KeptTurn G most t st (Abandon s full) r st'
-  turn_abandon s full NotMade h = unchanged (Abandon s full) NotMade h tt refl
-  turn_abandon s full (Refused f) h = absurd h
-  turn_abandon s full (Given y) h = absurd h
-  turn_abandon s full Accepted h = go st.filling refl h.0
+  turn_abandon : (s : ℕ) (sort : Sort) (r : Answer B) → Made G most st (Abandon s sort) r st' → KeptTurn G most t st (Abandon s sort) r st'
+  turn_abandon s sort NotMade h = unchanged (Abandon s sort) NotMade h tt refl
+  turn_abandon s sort (Refused f) h = absurd h
+  turn_abandon s sort (Given y) h = absurd h
+  turn_abandon s sort Accepted h = go st.filling refl h.0
     where
-      go : (f : Filling) → st.filling ≡ f → being_filled f s ≡ true → KeptTurn G most t st (Abandon s full) Accepted st'
-      go Idle e b = absurd (both_ways false refl b)
-      go (At u k) e b =
+      go : (f : Option Filling) → st.filling ≡ f → being_filled f s ≡ true → KeptTurn G most t st (Abandon s sort) Accepted st'
+      go None e b = absurd (both_ways false refl b)
+      go (Some f) e b =
+          let u = f.station in
+          let k = f.next in
           let su : u ≡ s = sym (eqb-true s u b) in
-          let at : st.filling ≡ At s k = e ∙ ap (λ x. At x k) su in
-          let M' : Matches G t (state st.store (At s k)) = subst (λ f. Matches G t (state st.store f)) at M in
-          let gone : ended s t.filling ≡ Idle = ap (ended s) (M.filling ∙ at) ∙ ap (λ c. cond c Idle (At s k)) (eq-eqb s s refl) in
+          let at : st.filling ≡ filling_at s k = e ∙ ap (λ x. filling_at x k) su in
+          let M' : Matches G t (state st.store (filling_at s k)) = subst (λ f. Matches G t (state st.store f)) at M in
+          let gone : ended s t.filling ≡ None = ap (ended s) (M.filling ∙ at) ∙ ap (λ c. cond c None (filling_at s k)) (eq-eqb s s refl) in
           record {
             promised = tt;
             size = (h.1 M.sound).size;
             matched = subst (λ f. Matches G (record { absent = t.absent; filling = f; last = t.last }) st') (sym gone)
-                (subst (λ f. Matches G (record { absent = t.absent; filling = Idle; last = t.last }) (state st'.store f)) (sym h.2) (keep_abandon G t st.store st'.store s k M' (h.1 M.sound)));
+                (subst (λ f. Matches G (record { absent = t.absent; filling = None; last = t.last }) (state st'.store f)) (sym h.2) (keep_abandon G t st.store st'.store s k M' (h.1 M.sound)));
           }
-  turn_abandon s full Untouched h =
-      unchanged (Abandon s full) Untouched h.1 tt (ap (λ f. record { absent = t.absent; filling = f; last = t.last }) (ap (ended s) M.filling ∙ stays st.filling h.0 ∙ sym M.filling))
+  turn_abandon s sort Untouched h =
+      unchanged (Abandon s sort) Untouched h.1 tt (ap (λ f. record { absent = t.absent; filling = f; last = t.last }) (ap (ended s) M.filling ∙ stays st.filling h.0 ∙ sym M.filling))
     where
-      stays : (f : Filling) → being_filled f s ≡ false → ended s f ≡ f
-      stays Idle e = refl
-      stays (At u k) e = ap (λ c. cond c Idle (At u k)) e
+      stays : (f : Option Filling) → being_filled f s ≡ false → ended s f ≡ f
+      stays None e = refl
+      stays (Some f) e = ap (λ c. cond c None (Some f)) e
 
   -- any call
   pub turn : (c : Call B) (r : Answer B) → Made G most st c r st' → KeptTurn G most t st c r st'
@@ -303,4 +307,4 @@ module _ {B : Type 0} (G : Group B) (most : ℕ) (t : Tally B) (st st' : State B
   turn (Fit s) r h = turn_fit s r h
   turn (Fill s area) r h = turn_fill s area r h
   turn (Finish s) r h = turn_finish s r h
-  turn (Abandon s full) r h = turn_abandon s full r h
+  turn (Abandon s sort) r h = turn_abandon s sort r h

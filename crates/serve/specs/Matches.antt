@@ -1,5 +1,5 @@
 -- A book whose store and record match a tally.
-use Rattle.std.specs.Prelude.{◌≡◌, ℕ, ◌<◌, Bool, false, ◌⊎◌, List, map}
+use Rattle.std.specs.Prelude.{◌≡◌, ℕ, ◌<◌, Bool, false, ◌⊎◌, List, map, Some, None, Option}
 use Rattle.kinds.specs.Group.{Group}
 use Rattle.code.specs.Rebuilt.{Kept}
 use Rattle.code.specs.Rules.{Blocks, of, Codeword, Agree}
@@ -11,12 +11,11 @@ use Rattle.serve.specs.Tally.{Tally, DataPair, Promise, at_start, tally_after}
 use Rattle.serve.specs.declared.turns.Call.{Call}
 use Rattle.serve.specs.declared.turns.Turn.{Turn}
 use Rattle.state.specs.declared.records.Filling.{Filling}
-use Rattle.state.specs.declared.records.Filling.TheVariants.{Idle, At}
 
 -- the pairs that are filled already hold the codeword's blocks: partners below the next one that stand, and the loop
-abbrev pub FilledPairs : {B : Type 0} → (ℕ → Bool) → Blocks B → Blocks B → Filling → Type 0
-FilledPairs gone f word Idle = Unit {0}
-FilledPairs gone f word (At s next) = (q : ℕ) → q < next → (gone q ≡ false) ⊎ (q ≡ s) → of f s q ≡ of word s q
+abbrev pub FilledPairs : {B : Type 0} → (ℕ → Bool) → Blocks B → Blocks B → Option Filling → Type 0
+FilledPairs gone f word None = Unit {0}
+FilledPairs gone f word (Some filled) = (q : ℕ) → q < filled.next → (gone q ≡ false) ⊎ (q ≡ filled.station) → of f filled.station q ≡ of word filled.station q
 
 pub record Matches {B : Type 0} (G : Group B) (t : Tally B) (st : State B) : Type 0 where
   pub prime : OddPrime (size_of st)

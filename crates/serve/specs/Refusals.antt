@@ -7,7 +7,6 @@ use Rattle.faults.specs.declared.faults.Fault.TheVariants.{AreaTooShort, NoSuchS
 use Rattle.state.specs.Fillings.{next_of}
 use Rattle.state.specs.States.{being_filled}
 use Rattle.state.specs.declared.records.Filling.{Filling}
-use Rattle.state.specs.declared.records.Filling.TheVariants.{Idle, At}
 use Rattle.serve.specs.Tally.{Tally, tallied}
 use Rattle.serve.specs.declared.turns.Answer.{Answer}
 use Rattle.serve.specs.declared.turns.Answer.TheVariants.{NotMade, Refused, Given, Accepted, Untouched}
@@ -40,9 +39,9 @@ module _ {B : Type 0} (n : ℕ) (t : Tally B) where
   out_now s = cond (being_filled t.filling s) false (t.absent s)
 
   -- none may be fitted while one is being filled, or three or more are absent
-  abbrev pub fit_refusal : Filling → Option Fault
-  fit_refusal Idle = unless_many true
-  fit_refusal (At u next) = Some (FillingUnderWay u)
+  abbrev pub fit_refusal : Option Filling → Option Fault
+  fit_refusal None = unless_many true
+  fit_refusal (Some f) = Some (FillingUnderWay f.station)
 
   -- why a call is refused, if it is, with a work area of so many blocks to be had
   abbrev pub refusal : ℕ → Call B → Option Fault
@@ -52,7 +51,7 @@ module _ {B : Type 0} (n : ℕ) (t : Tally B) where
   refusal most (Fit s) = cond (nat_le n s) (Some (NoSuchStation s)) (cond (out_now s) (fit_refusal t.filling) (Some (NotOut s)))
   refusal most (Fill s area) = unless_short (min area most) (cond (being_filled t.filling s) (unless_many true) (Some (TicketRefused s)))
   refusal most (Finish s) = cond (being_filled t.filling s && next_of t.filling == n) None (Some (TicketRefused s))
-  refusal most (Abandon s full) = None
+  refusal most (Abandon s sort) = None
 
   -- what one that is accepted is answered: a read the last write to its pair
   abbrev pub granted : Call B → Answer B
@@ -62,7 +61,7 @@ module _ {B : Type 0} (n : ℕ) (t : Tally B) where
   granted (Fit s) = Accepted
   granted (Fill s area) = Accepted
   granted (Finish s) = Accepted
-  granted (Abandon s full) = cond (being_filled t.filling s) Accepted Untouched
+  granted (Abandon s sort) = cond (being_filled t.filling s) Accepted Untouched
 
 -- one thing for a call that is accepted, another for one that is refused
 abbrev pub by_refusal : {X : Type 0} → Option Fault → X → (Fault → X) → X
@@ -80,7 +79,7 @@ Ticketed (Lose s) = ⊥
 Ticketed (Fit s) = Unit {0}
 Ticketed (Fill s area) = Unit {0}
 Ticketed (Finish s) = Unit {0}
-Ticketed (Abandon s full) = Unit {0}
+Ticketed (Abandon s sort) = Unit {0}
 
 -- the call was answered as the tally says, or not made
 abbrev pub Told : {B : Type 0} → ℕ → ℕ → Tally B → Call B → Answer B → Type 0

@@ -1,5 +1,5 @@
 -- What the accepted calls of a newly opened book come to, and what its client is promised.
-use Rattle.std.specs.Prelude.{◌≡◌, ℕ, ◌+◌, ◌*◌, ◌<◌, ◌≤◌, min, max, Bool, true, false, cond, ◌&&◌, ◌||◌, ◌⊎◌, List, [], ◌∷◌, ◌==◌}
+use Rattle.std.specs.Prelude.{◌≡◌, ℕ, ◌+◌, ◌*◌, ◌<◌, ◌≤◌, min, max, Bool, true, false, cond, ◌&&◌, ◌||◌, ◌⊎◌, List, [], ◌∷◌, Some, None, Option, ◌==◌}
 use Rattle.kinds.specs.Group.{Group}
 use Rattle.code.specs.Rebuilt.{absentees, Kept}
 use Rattle.code.specs.Rules.{Blocks, of, Codeword, Agree}
@@ -7,7 +7,7 @@ use Rattle.faults.specs.declared.faults.Fault.{Fault}
 use Rattle.store.specs.Meaning.{Meaning}
 use Rattle.state.specs.Fillings.{stepped}
 use Rattle.state.specs.declared.records.Filling.{Filling}
-use Rattle.state.specs.declared.records.Filling.TheVariants.{Idle, At}
+use Rattle.state.specs.States.{filling_at}
 use Rattle.serve.specs.declared.turns.Answer.{Answer}
 use Rattle.serve.specs.declared.turns.Answer.TheVariants.{NotMade, Refused, Given, Accepted, Untouched}
 use Rattle.serve.specs.declared.turns.Call.{Call}
@@ -17,31 +17,39 @@ use Rattle.serve.specs.declared.turns.Turn.{Turn}
 -- the absent stations, the filling with its next partner, and the last write to each pair
 pub record Tally (B : Type 0) : Type 0 where
   pub absent : ℕ → Bool
-  pub filling : Filling
+  pub filling : Option Filling
   pub last : Blocks B
 
 -- at the start all stations stand and nothing is written
 abbrev pub at_start : {B : Type 0} → Group B → Tally B
-at_start G = record { absent = λ _. false; filling = Idle; last = λ _ _. G.none }
+at_start G = record { absent = λ _. false; filling = None; last = λ _ _. G.none }
 
 -- s absent, or standing, as b says
 abbrev pub turned : (ℕ → Bool) → ℕ → Bool → ℕ → Bool
 turned f s b t = cond (t == s) b (f t)
 
 -- no filling, if it was that of s
-abbrev pub ended : ℕ → Filling → Filling
-ended s Idle = Idle
-ended s (At t next) = cond (s == t) Idle (At t next)
+abbrev pub ended : ℕ → Option Filling → Option Filling
+ended s None = None
+ended s (Some f) = cond (s == f.station) None (Some f)
+
+-- the tally after a write of x to the pair of a and b
+abbrev pub written : {B : Type 0} → Tally B → ℕ → ℕ → B → Tally B
+written t a b x = record { absent = t.absent; filling = t.filling; last = λ p q. cond (p == max a b && q == min a b) x (t.last p q) }
+
+-- and after the loss of s
+abbrev pub lost : {B : Type 0} → Tally B → ℕ → Tally B
+lost t s = record { absent = turned t.absent s true; filling = t.filling; last = t.last }
 
 -- one more accepted call, of n stations
 abbrev pub accepted : {B : Type 0} → ℕ → Tally B → Call B → Tally B
-accepted n t (Write a b x area) = record { absent = t.absent; filling = t.filling; last = λ p q. cond (p == max a b && q == min a b) x (t.last p q) }
+accepted n t (Write a b x area) = written t a b x
 accepted n t (Read a b area) = t
-accepted n t (Lose s) = record { absent = turned t.absent s true; filling = t.filling; last = t.last }
-accepted n t (Fit s) = record { absent = t.absent; filling = At s 0; last = t.last }
+accepted n t (Lose s) = lost t s
+accepted n t (Fit s) = record { absent = t.absent; filling = filling_at s 0; last = t.last }
 accepted n t (Fill s area) = record { absent = t.absent; filling = stepped n t.filling; last = t.last }
 accepted n t (Finish s) = record { absent = turned t.absent s false; filling = ended s t.filling; last = t.last }
-accepted n t (Abandon s full) = record { absent = t.absent; filling = ended s t.filling; last = t.last }
+accepted n t (Abandon s sort) = record { absent = t.absent; filling = ended s t.filling; last = t.last }
 
 -- refused calls change nothing
 abbrev pub tallied : {B : Type 0} → ℕ → Tally B → Call B → Answer B → Tally B
@@ -76,7 +84,7 @@ Promised n most t (Lose s) r = Unit {0}
 Promised n most t (Fit s) r = Unit {0}
 Promised n most t (Fill s area) r = Unit {0}
 Promised n most t (Finish s) r = Unit {0}
-Promised n most t (Abandon s full) r = Unit {0}
+Promised n most t (Abandon s sort) r = Unit {0}
 
 -- the store holds, at each pair of standing stations, the block of the codeword whose data pairs are the last writes
 abbrev pub Holds : {B : Type 0} → Group B → Tally B → Meaning B → Type 0

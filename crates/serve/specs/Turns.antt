@@ -1,13 +1,12 @@
 -- What a call does to a book, by its answer: the exact answers and effects of the calls, gathered.
-use Rattle.std.specs.Prelude.{◌≡◌, ℕ, min, true, false, Ok, Err}
+use Rattle.std.specs.Prelude.{◌≡◌, ℕ, min, true, false, None, Ok, Err}
 use Rattle.kinds.specs.Group.{Group}
 use Rattle.code.specs.Rebuilt.{Recovered}
 use Rattle.faults.specs.declared.faults.Fault.{Fault}
 use Rattle.store.specs.Meaning.{Remarked}
 use Rattle.state.specs.Calls.{read_answer, write_answer, lose_answer, fit_answer, fill_answer, finish_answer, Wrote, FilledNext}
 use Rattle.state.specs.Fillings.{stepped}
-use Rattle.state.specs.States.{State, size_of, absent, being_filled, Sound}
-use Rattle.state.specs.declared.records.Filling.TheVariants.{Idle, At}
+use Rattle.state.specs.States.{State, size_of, absent, being_filled, filling_at, Sound}
 use Rattle.serve.specs.declared.turns.Answer.{Answer}
 use Rattle.serve.specs.declared.turns.Answer.TheVariants.{NotMade, Refused, Given, Accepted, Untouched}
 use Rattle.serve.specs.declared.turns.Call.{Call}
@@ -34,14 +33,14 @@ Made G most st (Lose s) r st' =
     ((lose_answer st s ≡ Ok tt) × Remarked st.store s true st'.store × (st'.filling ≡ st.filling)) ⊥
 Made G most st (Fit s) r st' =
     ByAnswer r (st' ≡ st) (λ f. (fit_answer st s ≡ Err f) × (st' ≡ st)) (λ _. ⊥)
-    ((fit_answer st s ≡ Ok tt) × Remarked st.store s false st'.store × (st'.filling ≡ At s 0)) ⊥
+    ((fit_answer st s ≡ Ok tt) × Remarked st.store s false st'.store × (st'.filling ≡ filling_at s 0)) ⊥
 Made G most st (Fill s area) r st' =
     ByAnswer r (st' ≡ st) (λ f. (fill_answer st (min area most) s ≡ Err f) × (st' ≡ st)) (λ _. ⊥)
     ((fill_answer st (min area most) s ≡ Ok tt) × (Sound st → FilledNext G st st.filling st'.store) × (st'.filling ≡ stepped (size_of st) st.filling)) ⊥
 Made G most st (Finish s) r st' =
     ByAnswer r (st' ≡ st) (λ f. (finish_answer st s ≡ Err f) × (st' ≡ st)) (λ _. ⊥)
-    ((finish_answer st s ≡ Ok tt) × (st'.store ≡ st.store) × (st'.filling ≡ Idle)) ⊥
-Made G most st (Abandon s full) r st' =
+    ((finish_answer st s ≡ Ok tt) × (st'.store ≡ st.store) × (st'.filling ≡ None)) ⊥
+Made G most st (Abandon s sort) r st' =
     ByAnswer r (st' ≡ st) (λ _. ⊥) (λ _. ⊥)
-    ((being_filled st.filling s ≡ true) × (Sound st → Remarked st.store s true st'.store) × (st'.filling ≡ Idle))
+    ((being_filled st.filling s ≡ true) × (Sound st → Remarked st.store s true st'.store) × (st'.filling ≡ None))
     ((being_filled st.filling s ≡ false) × (st' ≡ st))

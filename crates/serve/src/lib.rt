@@ -10,4 +10,4 @@ pub mod turns;
 pub use racks::Rack;
 pub use retires::retire;
 pub use serves::{carry_on, serve};
-pub use turns::{Answer, Call, Turn};
+pub use turns::{Answer, Call, Sort, Turn};

@@ -1,10 +1,11 @@
 // A rack of tickets: those that fit handed out, and any from elsewhere.
-ghost use Rattle.std.specs.Prelude.{◌≡◌, ◌+◌, ◌<◌, true, [], IfSome, vec_len, MatchOption, slice_index_or};
+ghost use Rattle.std.specs.Prelude.{◌≡◌, ◌==◌, ◌+◌, ◌<◌, ◌≤◌, [], IfSome, OnOk, vec_len, vec_capacity, MatchOption};
 ghost use Rattle.serve.specs.Racks.{Roomy, held};
 ghost use Rattle.book.specs.Tickets.{station_of};
 
-use book::{FullTicket, OpenTicket, Ticket};
-use std::alloc::Global;
+use crate::turns::Sort;
+use book::{FullTicket, OpenTicket, Ticket, TicketOf};
+use std::alloc::{AllocError, Global};
 
 // Tickets are spent, so a rack is emptied by `take_any` before it is ended.
 pub struct Rack {
@@ -12,28 +13,18 @@ pub struct Rack {
     full: Vec<FullTicket>,
 }
 
-// Where the first open ticket of station s is.
-fn find_open(tickets: &Vec<OpenTicket>, s: u8) -> Option<usize>
-    ensures { IfSome result (λ i. (i < vec_len tickets.now) × ((d : OpenTicket) → (slice_index_or tickets.now.items i d).station ≡ s)) }
+// The first ticket of station s, out of a list.
+fn take_from<const FULL: bool>(tickets: &mut Vec<TicketOf<FULL>>, s: u8) -> Option<TicketOf<FULL>>
+    ensures station { IfSome result (λ t. t.station ≡ s) }
+    ensures fewer { vec_len tickets.new ≤ vec_len tickets.old }
+    ensures capacity { vec_capacity tickets.new ≡ vec_capacity tickets.old }
 {
-    for i in 0..tickets.len() {
-        if tickets[i].station() == s {
-            return Some(i);
-        }
-    }
-    None
-}
-
-// Where the first full ticket of station s is.
-fn find_full(tickets: &Vec<FullTicket>, s: u8) -> Option<usize>
-    ensures { IfSome result (λ i. (i < vec_len tickets.now) × ((d : FullTicket) → (slice_index_or tickets.now.items i d).station ≡ s)) }
-{
-    for i in 0..tickets.len() {
-        if tickets[i].station() == s {
-            return Some(i);
-        }
-    }
-    None
+    let i = tickets.iter().position(
+        |ticket| -> bool
+            ensures { result ≡ (ticket.now.station == s) }
+        { ticket.station() == s },
+    )?;
+    Some(tickets.remove(i))
 }
 
 impl Rack {
@@ -47,11 +38,12 @@ impl Rack {
         }
     }
 
-    // Room for one more ticket of each sort; false where there is no memory.
-    pub(crate) fn make_room(&mut self) -> bool
-        ensures { result ≡ true → Roomy self.new }
+    // Room for one more ticket of each sort.
+    pub(crate) fn make_room(&mut self) -> Result<(), AllocError>
+        ensures { OnOk result (Roomy self.new) }
     {
-        self.open.reserve(1).is_ok() && self.full.reserve(1).is_ok()
+        self.open.reserve(1)?;
+        self.full.reserve(1)
     }
 
     // An open ticket of station s.
@@ -59,10 +51,7 @@ impl Rack {
         ensures station { IfSome result (λ t. t.station ≡ s) }
         ensures room { Roomy self.old → Roomy self.new }
     {
-        match find_open(&self.open, s) {
-            Some(i) => Some(self.open.remove(i)),
-            None => None,
-        }
+        take_from(&mut self.open, s)
     }
 
     // A full ticket of station s.
@@ -70,26 +59,16 @@ impl Rack {
         ensures station { IfSome result (λ t. t.station ≡ s) }
         ensures room { Roomy self.old → Roomy self.new }
     {
-        match find_full(&self.full, s) {
-            Some(i) => Some(self.full.remove(i)),
-            None => None,
-        }
+        take_from(&mut self.full, s)
     }
 
     // A ticket of station s of the sort that is wanted.
-    pub(crate) fn take(&mut self, s: u8, full: bool) -> Option<Ticket>
+    pub(crate) fn take(&mut self, s: u8, sort: Sort) -> Option<Ticket>
         ensures { IfSome result (λ t. station_of t ≡ s) }
     {
-        if full {
-            match self.take_full(s) {
-                Some(ticket) => Some(Ticket::Full(ticket)),
-                None => None,
-            }
-        } else {
-            match self.take_open(s) {
-                Some(ticket) => Some(Ticket::Open(ticket)),
-                None => None,
-            }
+        match sort {
+            Sort::Open => self.take_open(s).map(Ticket::Open),
+            Sort::Full => self.take_full(s).map(Ticket::Full),
         }
     }
 
@@ -109,10 +88,7 @@ impl Rack {
     {
         match self.open.pop() {
             Some(ticket) => Some(Ticket::Open(ticket)),
-            None => match self.full.pop() {
-                Some(ticket) => Some(Ticket::Full(ticket)),
-                None => None,
-            },
+            None => self.full.pop().map(Ticket::Full),
         }
     }
 

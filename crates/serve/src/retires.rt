@@ -4,10 +4,9 @@ use book::Book;
 use store::{ReadStore, WriteStore};
 
 // Abandons every ticket of a rack, and ends it.
-pub fn retire<S: WriteStore>(book: &mut Book<S>, rack: Rack) {
-    let mut rest = rack;
-    while let Some(ticket) = rest.take_any() {
+pub fn retire<S: WriteStore>(book: &mut Book<S>, mut rack: Rack) {
+    while let Some(ticket) = rack.take_any() {
         let _ = book.abandon(ticket);
     }
-    rest.end();
+    rack.end();
 }

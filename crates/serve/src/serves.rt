@@ -1,19 +1,22 @@
 // Lists of calls, made one after the other.
 ghost use Rattle.std.specs.Prelude.{◌≡◌, ℕ, true, length, is_ok};
+ghost use Rattle.book.specs.Books.{state_of};
 ghost use Rattle.state.specs.Calls.{open_answer};
+ghost use Rattle.serve.specs.Answers.{answered_by};
 ghost use Rattle.serve.specs.Matches.{CarriesOn, Tells, Served, ServedTells, calls_of};
-ghost use Rattle.state.specs.States.{state};
 ghost use Rattle.serve.specs.Turns.{Made};
 ghost use Rattle.serve.specs.declared.turns.Call.TheVariants.{Write, Read, Lose, Fit, Fill, Finish, Abandon};
 ghost use Rattle.store.specs.Meaning.{After};
 
 use crate::racks::Rack;
-use crate::turns::{Answer, Call, Turn};
-use book::{Book, FullTicket, OpenTicket, Ticket};
+use crate::turns::{Answer, Call, Sort, Turn};
+use book::{Book, Ticket};
 use faults::Fault;
 use kinds::BlockKind;
 use store::{ReadStore, WriteStore};
 
+// The book, the work area and the rack travel side by side. A struct that lends them would owe, in each method, a clause for
+// each of the three that it still lends the same one.
 fn make_write<S: WriteStore>(
     book: &mut Book<S>,
     a: u8,
@@ -21,14 +24,12 @@ fn make_write<S: WriteStore>(
     x: S::Block,
     area: usize,
     work: &mut [S::Block],
-) -> Answer<S::Block>
-    ensures { Made S.Block.group (length work.old) (state (S.means book.old.store) book.old.filling) (Write a b x area) result (state (S.means book.new.store) book.new.filling) }
+) -> Result<Answer<S::Block>, Fault>
+    ensures { Made S.Block.group (length work.old) (state_of S.means book.old) (Write a b x area) (answered_by result) (state_of S.means book.new) }
 {
     let len = area.min(work.len());
-    match book.write(a, b, x, &mut work[0..len]) {
-        Ok(()) => Answer::Accepted,
-        Err(fault) => Answer::Refused(fault),
-    }
+    book.write(a, b, x, &mut work[..len])?;
+    Ok(Answer::Accepted)
 }
 
 fn make_read<S: WriteStore>(
@@ -37,39 +38,35 @@ fn make_read<S: WriteStore>(
     b: u8,
     area: usize,
     work: &mut [S::Block],
-) -> Answer<S::Block>
-    ensures { Made S.Block.group (length work.old) (state (S.means book.now.store) book.now.filling) (Read a b area) result (state (S.means book.now.store) book.now.filling) }
+) -> Result<Answer<S::Block>, Fault>
+    ensures { Made S.Block.group (length work.old) (state_of S.means book.now) (Read a b area) (answered_by result) (state_of S.means book.now) }
 {
     let len = area.min(work.len());
     let mut block = S::Block::zero();
-    match book.read(a, b, &mut work[0..len], &mut block) {
-        Ok(()) => Answer::Given(block),
-        Err(fault) => Answer::Refused(fault),
-    }
+    book.read(a, b, &mut work[..len], &mut block)?;
+    Ok(Answer::Given(block))
 }
 
-fn make_lose<S: WriteStore>(book: &mut Book<S>, s: u8) -> Answer<S::Block>
-    ensures { (most : ℕ) → Made S.Block.group most (state (S.means book.old.store) book.old.filling) (Lose s) result (state (S.means book.new.store) book.new.filling) }
+fn make_lose<S: WriteStore>(book: &mut Book<S>, s: u8) -> Result<Answer<S::Block>, Fault>
+    ensures { (most : ℕ) → Made S.Block.group most (state_of S.means book.old) (Lose s) (answered_by result) (state_of S.means book.new) }
 {
-    match book.lose(s) {
-        Ok(()) => Answer::Accepted,
-        Err(fault) => Answer::Refused(fault),
-    }
+    book.lose(s)?;
+    Ok(Answer::Accepted)
 }
 
-fn make_fit<S: WriteStore>(book: &mut Book<S>, s: u8, rack: &mut Rack) -> Answer<S::Block>
-    ensures { (most : ℕ) → Made S.Block.group most (state (S.means book.old.store) book.old.filling) (Fit s) result (state (S.means book.new.store) book.new.filling) }
+fn make_fit<S: WriteStore>(
+    book: &mut Book<S>,
+    s: u8,
+    rack: &mut Rack,
+) -> Result<Answer<S::Block>, Fault>
+    ensures { (most : ℕ) → Made S.Block.group most (state_of S.means book.old) (Fit s) (answered_by result) (state_of S.means book.new) }
 {
-    if !rack.make_room() {
-        return Answer::NotMade;
+    if rack.make_room().is_err() {
+        return Ok(Answer::NotMade);
     }
-    match book.fit(s) {
-        Ok(ticket) => {
-            rack.hold(Ticket::Open(ticket));
-            Answer::Accepted
-        }
-        Err(fault) => Answer::Refused(fault),
-    }
+    let ticket = book.fit(s)?;
+    rack.hold(Ticket::Open(ticket));
+    Ok(Answer::Accepted)
 }
 
 fn make_fill<S: WriteStore>(
@@ -78,55 +75,60 @@ fn make_fill<S: WriteStore>(
     area: usize,
     work: &mut [S::Block],
     rack: &mut Rack,
-) -> Answer<S::Block>
-    ensures { Made S.Block.group (length work.old) (state (S.means book.old.store) book.old.filling) (Fill s area) result (state (S.means book.new.store) book.new.filling) }
+) -> Result<Answer<S::Block>, Fault>
+    ensures { Made S.Block.group (length work.old) (state_of S.means book.old) (Fill s area) (answered_by result) (state_of S.means book.new) }
 {
-    if !rack.make_room() {
-        return Answer::NotMade;
+    if rack.make_room().is_err() {
+        return Ok(Answer::NotMade);
     }
     let Some(ticket) = rack.take_open(s) else {
-        return Answer::NotMade;
+        return Ok(Answer::NotMade);
     };
     let len = area.min(work.len());
-    match book.fill(ticket, &mut work[0..len]) {
+    match book.fill(ticket, &mut work[..len]) {
         Ok(next) => {
             rack.hold(next);
-            Answer::Accepted
+            Ok(Answer::Accepted)
         }
         Err((back, fault)) => {
             rack.hold(Ticket::Open(back));
-            Answer::Refused(fault)
+            Err(fault)
         }
     }
 }
 
-fn make_finish<S: WriteStore>(book: &mut Book<S>, s: u8, rack: &mut Rack) -> Answer<S::Block>
-    ensures { (most : ℕ) → Made S.Block.group most (state (S.means book.old.store) book.old.filling) (Finish s) result (state (S.means book.new.store) book.new.filling) }
+fn make_finish<S: WriteStore>(
+    book: &mut Book<S>,
+    s: u8,
+    rack: &mut Rack,
+) -> Result<Answer<S::Block>, Fault>
+    ensures { (most : ℕ) → Made S.Block.group most (state_of S.means book.old) (Finish s) (answered_by result) (state_of S.means book.new) }
 {
-    if !rack.make_room() {
-        return Answer::NotMade;
+    if rack.make_room().is_err() {
+        return Ok(Answer::NotMade);
     }
     let Some(ticket) = rack.take_full(s) else {
-        return Answer::NotMade;
+        return Ok(Answer::NotMade);
     };
     match book.finish(ticket) {
-        Ok(()) => Answer::Accepted,
+        Ok(()) => Ok(Answer::Accepted),
         Err((back, fault)) => {
             rack.hold(Ticket::Full(back));
-            Answer::Refused(fault)
+            Err(fault)
         }
     }
 }
 
+// An abandon is never refused.
 fn make_abandon<S: WriteStore>(
     book: &mut Book<S>,
     s: u8,
-    full: bool,
+    sort: Sort,
     rack: &mut Rack,
 ) -> Answer<S::Block>
-    ensures { (most : ℕ) → Made S.Block.group most (state (S.means book.old.store) book.old.filling) (Abandon s full) result (state (S.means book.new.store) book.new.filling) }
+    ensures { (most : ℕ) → Made S.Block.group most (state_of S.means book.old) (Abandon s sort) result (state_of S.means book.new) }
 {
-    let Some(ticket) = rack.take(s, full) else {
+    let Some(ticket) = rack.take(s, sort) else {
         return Answer::NotMade;
     };
     if book.abandon(ticket) {
@@ -136,14 +138,14 @@ fn make_abandon<S: WriteStore>(
     }
 }
 
-// Makes one call.
-fn make_call<S: WriteStore>(
+// Makes one call, and passes a refusal on.
+fn try_call<S: WriteStore>(
     book: &mut Book<S>,
     call: Call<S::Block>,
     work: &mut [S::Block],
     rack: &mut Rack,
-) -> Answer<S::Block>
-    ensures { Made S.Block.group (length work.old) (state (S.means book.old.store) book.old.filling) call result (state (S.means book.new.store) book.new.filling) }
+) -> Result<Answer<S::Block>, Fault>
+    ensures { Made S.Block.group (length work.old) (state_of S.means book.old) call (answered_by result) (state_of S.means book.new) }
 {
     match call {
         Call::Write { a, b, block, area } => make_write(book, a, b, block, area, work),
@@ -152,7 +154,22 @@ fn make_call<S: WriteStore>(
         Call::Fit { station } => make_fit(book, station, rack),
         Call::Fill { station, area } => make_fill(book, station, area, work, rack),
         Call::Finish { station } => make_finish(book, station, rack),
-        Call::Abandon { station, full } => make_abandon(book, station, full, rack),
+        Call::Abandon { station, sort } => Ok(make_abandon(book, station, sort, rack)),
+    }
+}
+
+// What a call is answered, whether it is refused or not.
+fn make_call<S: WriteStore>(
+    book: &mut Book<S>,
+    call: Call<S::Block>,
+    work: &mut [S::Block],
+    rack: &mut Rack,
+) -> Answer<S::Block>
+    ensures { Made S.Block.group (length work.old) (state_of S.means book.old) call result (state_of S.means book.new) }
+{
+    match try_call(book, call, work, rack) {
+        Ok(answer) => answer,
+        Err(fault) => Answer::Refused(fault),
     }
 }
 
@@ -165,12 +182,11 @@ pub fn carry_on<S: WriteStore>(
     rack: &mut Rack,
 )
     ensures calls { calls_of turns.new ≡ calls_of turns.old }
-    ensures promise { CarriesOn S.Block.group (length work.old) (state (S.means book.old.store) book.old.filling) turns.new (state (S.means book.new.store) book.new.filling) }
-    ensures told { Tells S.Block.group (length work.old) (state (S.means book.old.store) book.old.filling) turns.new }
+    ensures promise { CarriesOn S.Block.group (length work.old) (state_of S.means book.old) turns.new (state_of S.means book.new) }
+    ensures told { Tells S.Block.group (length work.old) (state_of S.means book.old) turns.new }
 {
-    for i in 0..turns.len() {
-        let answer = make_call(book, turns[i].call, work, rack);
-        turns[i].answer = answer;
+    for turn in turns.iter_mut() {
+        turn.answer = make_call(book, turn.call, work, rack);
     }
 }
 
@@ -186,10 +202,10 @@ pub fn serve<S: WriteStore>(
     work: &mut [S::Block],
     rack: &mut Rack,
 ) -> Result<(), Fault>
-    ensures answer { result ≡ open_answer (state (S.means book.old.store) book.old.filling) }
+    ensures answer { result ≡ open_answer (state_of S.means book.old) }
     ensures calls { calls_of turns.new ≡ calls_of turns.old }
-    ensures promise { After result (Served S.Block.group (length work.old) (state (S.means book.old.store) book.old.filling) turns.new (state (S.means book.new.store) book.new.filling)) ((state (S.means book.new.store) book.new.filling ≡ state (S.means book.old.store) book.old.filling) × (turns.new ≡ turns.old) × (work.new ≡ work.old) × (rack.new ≡ rack.old)) }
-    ensures told { is_ok result ≡ true → ServedTells S.Block.group (length work.old) (state (S.means book.old.store) book.old.filling) turns.new }
+    ensures promise { After result (Served S.Block.group (length work.old) (state_of S.means book.old) turns.new (state_of S.means book.new)) ((state_of S.means book.new ≡ state_of S.means book.old) × (turns.new ≡ turns.old) × (work.new ≡ work.old) × (rack.new ≡ rack.old)) }
+    ensures told { is_ok result ≡ true → ServedTells S.Block.group (length work.old) (state_of S.means book.old) turns.new }
 {
     book.open()?;
     carry_on(book, turns, work, rack);

@@ -1,6 +1,21 @@
 // Calls and answers in text.
-use crate::turns::{Answer, Call, Turn};
+ghost use Rattle.std.specs.Prelude.{Some};
+ghost use Rattle.serve.specs.Texts.{sort_text};
+
+use crate::turns::{Answer, Call, Sort, Turn};
 use std::fmt;
+
+// `open`, or `full`.
+impl fmt::Display for Sort {
+    ghost output = { λ sort. Some (sort_text sort) };
+
+    fn fmt<W: fmt::Write>(&self, f: &mut fmt::Formatter<W>) -> fmt::Result {
+        match self {
+            Sort::Open => write!(f, "open"),
+            Sort::Full => write!(f, "full"),
+        }
+    }
+}
 
 // The call's name and its arguments.
 impl<B: fmt::Display> fmt::Display for Call<B> {
@@ -12,10 +27,7 @@ impl<B: fmt::Display> fmt::Display for Call<B> {
             Call::Fit { station } => write!(f, "fit {station}"),
             Call::Fill { station, area } => write!(f, "fill {station} area {area}"),
             Call::Finish { station } => write!(f, "finish {station}"),
-            Call::Abandon { station, full } => {
-                let sort = if *full { "full" } else { "open" };
-                write!(f, "abandon {station} {sort}")
-            }
+            Call::Abandon { station, sort } => write!(f, "abandon {station} {sort}"),
         }
     }
 }

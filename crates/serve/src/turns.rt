@@ -1,8 +1,15 @@
 // Calls as values, with a place for the answer to each.
 use faults::Fault;
 
+// The two sorts of tickets.
+#[derive(Clone, Copy, Debug, PartialEq, Eq)]
+pub enum Sort {
+    Open,
+    Full,
+}
+
 // A call of a book. A ticket goes by its station, and a work area by its length, up to the area that is there.
-#[derive(Clone, Copy, Debug)]
+#[derive(Clone, Copy, Debug, PartialEq, Eq)]
 pub enum Call<B> {
     Write { a: u8, b: u8, block: B, area: usize },
     Read { a: u8, b: u8, area: usize },
@@ -10,11 +17,11 @@ pub enum Call<B> {
     Fit { station: u8 },
     Fill { station: u8, area: usize },
     Finish { station: u8 },
-    Abandon { station: u8, full: bool },
+    Abandon { station: u8, sort: Sort },
 }
 
-// What a call answered.
-#[derive(Clone, Copy, Debug)]
+// What a call answered: five outcomes side by side. A refusal is one of them, since a list goes on after it.
+#[derive(Clone, Copy, Debug, PartialEq, Eq)]
 pub enum Answer<B> {
     // There was no such ticket to spend, or no room to keep one: the call was not made.
     NotMade,
@@ -25,8 +32,8 @@ pub enum Answer<B> {
     Untouched,
 }
 
-// A call and its answer.
-#[derive(Clone, Copy, Debug)]
+// A call and its answer. An answer stands there only when the call was made: what stands there before is not looked at.
+#[derive(Clone, Copy, Debug, PartialEq, Eq)]
 pub struct Turn<B> {
     pub call: Call<B>,
     pub answer: Answer<B>,

@@ -1,5 +1,5 @@
 -- Blocks added to the pairs of a store: one pair, then a row, then a codeword.
-use Rattle.std.proofs.Common.{◌≡◌, ℕ, ◌+◌, ◌<◌, ◌≤◌, min, max, Bool, true, false, cond, ◌&&◌, ◌||◌, eqb, ◌⊎◌, List, get_or, is_ok, Result, sym, refl, ap, ◌∙◌, ap₂, inl, inr, arith}
+use Rattle.std.proofs.Common.{◌≡◌, ℕ, ◌+◌, ◌<◌, ◌≤◌, min, max, Bool, true, false, cond, ◌&&◌, ◌||◌, eqb, ◌⊎◌, List, get_or, is_ok, Result, sym, refl, ap, ◌∙◌, subst, ap₂, inl, inr, arith}
 use Rattle.std.proofs.lemmas.Bool.{cases_eq, and_left, and_right, ne_eqb, eq-eqb, and_from, cond-true, cond-false}
 use Rattle.std.proofs.lemmas.Bool.Decides.{nat_tests}
 use Rattle.kinds.specs.Group.{Group}
@@ -7,9 +7,8 @@ use Rattle.code.specs.Rules.{Blocks, of}
 use Rattle.code.proofs.Rows.{ordered}
 use Rattle.code.proofs.Sums.{unit, unit_left}
 use Rattle.faults.specs.declared.faults.Fault.{Fault}
-use Rattle.store.specs.Meaning.{Meaning, After, Written, get_answer}
+use Rattle.store.specs.Meaning.{Meaning, get_answer}
 use Rattle.state.specs.Additions.{spot, row_part, Added}
-use Rattle.state.proofs.Fillings.{did}
 
 or_swap : (x y : Bool) → (x || y) ≡ (y || x)
 or_swap true true = refl
@@ -52,15 +51,6 @@ module _ {B : Type 0} (G : Group B) where
   twice true x y z u v e h = h ∙ e
   twice false x y z u v e h = h ∙ ap (λ w. w ⊕ v) e ∙ G.assoc x u v
 
-  -- nothing was added
-  pub added_none : (m : Meaning B) (f : Blocks B) → ((u v : ℕ) → f u v ≡ none) → Added G m f m
-  added_none m f e =
-      record {
-        size = refl;
-        out = λ s _. refl;
-        blocks = λ p q _ _. with_none (m.out p || m.out q) (of m.block p q) ∙ ap (λ w. cond (m.out p || m.out q) (of m.block p q) (of m.block p q ⊕ w)) (sym (e (max p q) (min p q)));
-      }
-
   -- the same was added
   pub added_same : (m m' : Meaning B) (f g : Blocks B) → ((u v : ℕ) → u < m.size → v ≤ u → f u v ≡ g u v) → Added G m f m' → Added G m g m'
   added_same m m' f g e h =
@@ -82,10 +72,7 @@ module _ {B : Type 0} (G : Group B) where
       }
 
   module _ (m : Meaning B) (a b : ℕ) (d : B) (la : a < m.size) (lb : b < m.size) where
-    -- a pair is admitted if both stations are in
-    in_pair : is_ok (get_answer m a b) ≡ true → (m.out (max a b) || m.out (min a b)) ≡ false
-    in_pair e = grind (arith, nat_tests)
-
+    -- a pair is refused if one of its stations is out
     out_pair : is_ok (get_answer m a b) ≡ false → (m.out (max a b) || m.out (min a b)) ≡ true
     out_pair e = grind (arith, nat_tests)
 
@@ -93,21 +80,8 @@ module _ {B : Type 0} (G : Group B) where
     same_out : (p q : ℕ) → max p q ≡ max a b → min p q ≡ min a b → (m.out p || m.out q) ≡ (m.out (max a b) || m.out (min a b))
     same_out p q e h = sym (either_out m.out p q) ∙ ap₂ (λ x y. m.out x || m.out y) e h
 
-    -- the pair took its block plus d
-    pub added_put : (m' : Meaning B) (x : B) → is_ok (get_answer m a b) ≡ true → x ≡ of m.block a b ⊕ d → Written m a b x m' → Added G m (spot none d a b) m'
-    added_put m' x ok is w = record { size = w.size; out = w.out; blocks = at }
-      where
-        at : (p q : ℕ) → p < m.size → q < m.size → of m'.block p q ≡ cond (m.out p || m.out q) (of m.block p q) (of m.block p q ⊕ of (spot none d a b) p q)
-        at p q lp lq = elim (same_or_other a b (max p q) (min p q)) [
-          | inl e ↦ ap₂ m'.block e.0 e.1 ∙ w.here ∙ is
-              ∙ ap₂ ◌⊕◌ (sym (ap₂ m.block e.0 e.1)) (sym (spot_here none d a b (max p q) (min p q) e.0 e.1))
-              ∙ sym (cond-false (m.out p || m.out q) (of m.block p q) (of m.block p q ⊕ of (spot none d a b) p q) (same_out p q e.0 e.1 ∙ in_pair ok))
-          | inr e ↦ w.others p q lp lq e ∙ with_none (m.out p || m.out q) (of m.block p q)
-              ∙ ap (λ x. cond (m.out p || m.out q) (of m.block p q) (of m.block p q ⊕ x)) (sym (spot_other none d a b (max p q) (min p q) e))
-        ]
-
     -- the pair was refused
-    pub added_not : is_ok (get_answer m a b) ≡ false → Added G m (spot none d a b) m
+    added_not : is_ok (get_answer m a b) ≡ false → Added G m (spot none d a b) m
     added_not ko = record { size = refl; out = λ s _. refl; blocks = at }
       where
         at : (p q : ℕ) → p < m.size → q < m.size → of m.block p q ≡ cond (m.out p || m.out q) (of m.block p q) (of m.block p q ⊕ of (spot none d a b) p q)
@@ -117,31 +91,19 @@ module _ {B : Type 0} (G : Group B) where
               ∙ ap (λ x. cond (m.out p || m.out q) (of m.block p q) (of m.block p q ⊕ x)) (sym (spot_other none d a b (max p q) (min p q) e))
         ]
 
-    -- the block was got, and the sum put
-    pub added_got : (got put : Result (Unit {0}) Fault) (first old x : B) (m' : Meaning B) → true ≡ is_ok got → got ≡ get_answer m a b → old ≡ cond (is_ok got) (of m.block a b) first
-        → x ≡ old ⊕ d → put ≡ get_answer m a b → After put (Written m a b x m') (m' ≡ m) → Added G m (spot none d a b) m'
-    added_got got put first old x m' t e was is h after =
-        let ok : is_ok (get_answer m a b) ≡ true = ap is_ok (sym e) ∙ sym t in
-        added_put m' x ok (is ∙ ap (λ y. y ⊕ d) (was ∙ cond-true (is_ok got) (of m.block a b) first (sym t)))
-        (did put (Written m a b x m') (m' ≡ m) (ap is_ok h ∙ ok) after)
-
     -- the get was refused
     pub added_refused : (got : Result (Unit {0}) Fault) → false ≡ is_ok got → got ≡ get_answer m a b → Added G m (spot none d a b) m
     added_refused got t e = added_not (ap is_ok (sym e) ∙ sym t)
 
-  module _ (c : ℕ) (area : List B) (start : ℕ) where
-    -- no pair of a row
-    pub row_none : (u v : ℕ) → row_part G c 0 area start u v ≡ none
-    row_none u v = grind (arith, nat_tests)
-
+  module _ (c : ℕ) (row : List B) where
     -- one pair more
-    pub row_more : (k : ℕ) (x : B) → k ≤ c → x ≡ get_or area (start + k) none → (u v : ℕ) → v ≤ u → row_part G c k area start u v ⊕ spot none x c k u v ≡ row_part G c (k + 1) area start u v
+    pub row_more : (k : ℕ) (x : B) → k ≤ c → x ≡ get_or row k none → (u v : ℕ) → v ≤ u → row_part G c k row u v ⊕ spot none x c k u v ≡ row_part G c (k + 1) row u v
     row_more k x l e u v lv = go (cases_eq u c) (cases_eq v k)
       where
-        go : (u ≡ c) ⊎ ((u ≡ c) → ⊥) → (v ≡ k) ⊎ ((v ≡ k) → ⊥) → row_part G c k area start u v ⊕ spot none x c k u v ≡ row_part G c (k + 1) area start u v
+        go : (u ≡ c) ⊎ ((u ≡ c) → ⊥) → (v ≡ k) ⊎ ((v ≡ k) → ⊥) → row_part G c k row u v ⊕ spot none x c k u v ≡ row_part G c (k + 1) row u v
         go (inl p) (inl q) =
             let s : spot none x c k u v ≡ x = spot_here none x c k u v (omega arith) (omega arith) in
-            let r : get_or area (start + v) none ≡ x = ap (λ w. get_or area (start + w) none) q ∙ sym e in
+            let r : get_or row v none ≡ x = ap (λ w. get_or row w none) q ∙ sym e in
             grind (arith, nat_tests, unit_left G x)
         go (inl p) (inr q) =
             let s : spot none x c k u v ≡ none = spot_other none x c k u v (λ h. q (omega (arith, h.1))) in
@@ -149,3 +111,11 @@ module _ {B : Type 0} (G : Group B) where
         go (inr p) _ =
             let s : spot none x c k u v ≡ none = spot_other none x c k u v (λ h. p (omega (arith, h.0))) in
             grind (arith, nat_tests, unit G none)
+
+    -- and the block added there
+    pub row_step : (m m₁ m₂ : Meaning B) (k e : ℕ) (x : B) → k ≤ c → e ≡ k + 1 → x ≡ get_or row k none → Added G m (row_part G c k row) m₁ → Added G m₁ (spot none x c k) m₂
+        → Added G m (row_part G c e row) m₂
+    row_step m m₁ m₂ k e x l is at h₁ h₂ =
+        subst (λ e. Added G m (row_part G c e row) m₂) (sym is)
+        (added_same m m₂ (λ u v. row_part G c k row u v ⊕ spot none x c k u v) (row_part G c (k + 1) row) (λ u v _ lv. row_more k x l at u v lv)
+        (added_more m m₁ m₂ (row_part G c k row) (spot none x c k) h₁ h₂))

@@ -1,6 +1,5 @@
 pub mod Absents
 pub mod Datas
-pub mod Checks
 pub mod Fillings
 pub mod Cleared
 pub mod Addings

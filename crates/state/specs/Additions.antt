@@ -1,18 +1,17 @@
 -- Blocks added to the pairs of a store.
-use Rattle.std.specs.Prelude.{◌≡◌, ℕ, ◌+◌, ◌*◌, ◌<◌, ◌≤◌, min, max, Bool, false, cond, ◌&&◌, ◌||◌, List, ◌==◌, nat_lt, slice_index_or}
+use Rattle.std.specs.Prelude.{◌≡◌, ℕ, ◌<◌, min, max, Bool, cond, ◌&&◌, ◌||◌, List, ◌==◌, nat_lt, slice_index_or}
 use Rattle.kinds.specs.Group.{Group}
 use Rattle.code.specs.Rules.{Blocks, of}
 use Rattle.store.specs.Meaning.{Meaning}
-use Rattle.state.specs.Calls.{Touched, too_many}
-use Rattle.state.specs.States.{State, size_of}
+use Rattle.state.specs.Calls.{Touched}
 
 -- d at the pair of a and b, and none elsewhere
 abbrev pub spot : {B : Type 0} → B → B → ℕ → ℕ → Blocks B
 spot none d a b u v = cond (u == max a b && v == min a b) d none
 
--- the pairs of c with the stations below k, from a row that begins at p in an area
-abbrev pub row_part : {B : Type 0} → Group B → ℕ → ℕ → List B → ℕ → Blocks B
-row_part G c k area p u v = cond (u == c && nat_lt v k) (slice_index_or area (p + v) G.none) G.none
+-- the pairs of c with the stations below k, from a row
+abbrev pub row_part : {B : Type 0} → Group B → ℕ → ℕ → List B → Blocks B
+row_part G c k row u v = cond (u == c && nat_lt v k) (slice_index_or row v G.none) G.none
 
 -- m' is m with the blocks of f added to the pairs whose stations are both in
 pub record Added {B : Type 0} (G : Group B) (m : Meaning B) (f : Blocks B) (m' : Meaning B) : Type 0 where
@@ -25,9 +24,3 @@ pub record Spread {B : Type 0} (G : Group B) (m : Meaning B) (a b : ℕ) (d : B)
   pub word : Blocks Bool
   pub touched : Touched m.size a b word
   pub added : Added G m (λ u v. cond (word u v) d G.none) m'
-
--- the pair of a and b can be written: it is a data pair, and at most two stations are absent
-pub record CanWrite {B : Type 0} (st : State B) (len a b : ℕ) : Type 0 where
-  pub inner : max a b + 2 < size_of st
-  pub long : 8 * size_of st ≤ len
-  pub few : too_many st ≡ false

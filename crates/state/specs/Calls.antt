@@ -11,7 +11,6 @@ use Rattle.store.specs.Meaning.{Meaning, Written, first}
 use Rattle.state.specs.Fillings.{next_of}
 use Rattle.state.specs.States.{State, size_of, being_filled, absent, absent_count}
 use Rattle.state.specs.declared.records.Filling.{Filling}
-use Rattle.state.specs.declared.records.Filling.TheVariants.{Idle, At}
 
 -- three or more stations are absent
 abbrev pub too_many : {B : Type 0} → State B → Bool
@@ -40,7 +39,11 @@ pub record Opened {B : Type 0} (G : Group B) (st st' : State B) : Type 0 where
   pub size : size_of st' ≡ size_of st
   pub out : (s : ℕ) → s < size_of st → st'.store.out s ≡ st.store.out s
   pub blocks : (p q : ℕ) → p < size_of st → q < size_of st → of st'.store.block p q ≡ G.none
-  pub filling : st'.filling ≡ Idle
+  pub filling : st'.filling ≡ None
+
+-- 9 b if three or more stations are absent
+abbrev pub few_answer : {B : Type 0} → State B → Result (Unit {0}) Fault
+few_answer st = cond (too_many st) (Err (TooManyAbsent (absent_count st))) (Ok tt)
 
 -- what read and write look at before the absent stations: the work area, the stations, and that the pair is a data pair
 abbrev pub data_answer : {B : Type 0} → State B → ℕ → ℕ → ℕ → Result (Unit {0}) Fault → Result (Unit {0}) Fault
@@ -57,7 +60,7 @@ read_answer st len a b =
 
 -- a write of any pair is
 abbrev pub write_answer : {B : Type 0} → State B → ℕ → ℕ → ℕ → Result (Unit {0}) Fault
-write_answer st len a b = data_answer st len a b (cond (too_many st) (Err (TooManyAbsent (absent_count st))) (Ok tt))
+write_answer st len a b = data_answer st len a b (few_answer st)
 
 -- the pattern of a data pair, and the pair itself: the codeword of bits with 1 there and 0 at the other data pairs
 pub record Touched (n a b : ℕ) (word : Blocks Bool) : Type 0 where
@@ -83,9 +86,9 @@ abbrev pub lose_answer : {B : Type 0} → State B → ℕ → Result (Unit {0}) 
 lose_answer st s = cond (nat_le (size_of st) s) (Err (NoSuchStation s)) (cond (absent st s) (Err (AlreadyAbsent s)) (Ok tt))
 
 -- may s be fitted? It has to be out, with none being filled and at most two absent
-abbrev pub none_filled : {B : Type 0} → State B → Filling → Result (Unit {0}) Fault
-none_filled st (At t next) = Err (FillingUnderWay t)
-none_filled st Idle = cond (too_many st) (Err (TooManyAbsent (absent_count st))) (Ok tt)
+abbrev pub none_filled : {B : Type 0} → State B → Option Filling → Result (Unit {0}) Fault
+none_filled st (Some f) = Err (FillingUnderWay f.station)
+none_filled st None = few_answer st
 
 abbrev pub fit_answer : {B : Type 0} → State B → ℕ → Result (Unit {0}) Fault
 fit_answer st s =
@@ -96,7 +99,7 @@ fit_answer st s =
 abbrev pub fill_answer : {B : Type 0} → State B → ℕ → ℕ → Result (Unit {0}) Fault
 fill_answer st len t =
     cond (nat_lt len (8 * size_of st)) (Err (AreaTooShort len))
-    (cond (being_filled st.filling t) (cond (too_many st) (Err (TooManyAbsent (absent_count st))) (Ok tt)) (Err (TicketRefused t)))
+    (cond (being_filled st.filling t) (few_answer st) (Err (TicketRefused t)))
 
 -- may a ticket of station t be used to finish? Its station is the one being filled, and its next partner is n
 abbrev pub finish_answer : {B : Type 0} → State B → ℕ → Result (Unit {0}) Fault
@@ -119,6 +122,6 @@ pub record Filled {B : Type 0} (G : Group B) (st : State B) (t next : ℕ) (m' :
   pub passed : st.store.out next ≡ true → m' ≡ st.store
 
 -- where there is a next partner; else the store stays
-abbrev pub FilledNext : {B : Type 0} → Group B → State B → Filling → Meaning B → Type 0
-FilledNext G st Idle m' = m' ≡ st.store
-FilledNext G st (At t next) m' = (next < size_of st → Filled G st t next m') × (size_of st ≤ next → m' ≡ st.store)
+abbrev pub FilledNext : {B : Type 0} → Group B → State B → Option Filling → Meaning B → Type 0
+FilledNext G st None m' = m' ≡ st.store
+FilledNext G st (Some f) m' = (f.next < size_of st → Filled G st f.station f.next m') × (size_of st ≤ f.next → m' ≡ st.store)

@@ -1,12 +1,8 @@
 -- A store while it is cleared: zero at the pairs whose larger station is below k, or with a at the partners below k.
-use Rattle.std.specs.Prelude.{◌≡◌, ℕ, ◌<◌, ◌≤◌, false, ◌≢◌}
+use Rattle.std.specs.Prelude.{◌≡◌, ℕ, ◌<◌, ◌≤◌, ◌≢◌}
 use Rattle.kinds.specs.Group.{Group}
 use Rattle.code.specs.Rules.{of}
 use Rattle.store.specs.Meaning.{Meaning}
-
--- no station is out
-abbrev pub AllIn : {B : Type 0} → Meaning B → Type 0
-AllIn m = (s : ℕ) → s < m.size → m.out s ≡ false
 
 pub record RowCleared {B : Type 0} (G : Group B) (m : Meaning B) (a k : ℕ) (m' : Meaning B) : Type 0 where
   pub size : m'.size ≡ m.size

@@ -3,4 +3,4 @@
 
 pub mod records;
 
-pub use records::Filling;
+pub use records::{Filling, fills, marks};

@@ -4,7 +4,8 @@ use Rattle.audit.proofs.First.{first_none}
 use Rattle.store.specs.Meaning.{first}
 use Rattle.state.specs.Calls.{out_at_open, open_answer, Opened}
 use Rattle.serve.specs.Matches.{Matches}
-use Rattle.state.specs.States.{State, state, size_of}
+use Rattle.book.specs.Books.{state_of}
+use Rattle.state.specs.States.{State, size_of}
 use Rattle.serve.specs.Refusals.{ToldAll}
 use Rattle.serve.specs.Tally.{at_start, tally_after}
 use Rattle.serve.proofs.Keeps.{keep_open}
@@ -25,9 +26,9 @@ returns g c =
     let b₁ = c.open.new.self in
     let b₂ = c.carry_on.new.book in
     let m = g.S.ReadStore.means in
-    let st = state (m b.store) b.filling in
-    let st₁ = state (m b₁.store) b₁.filling in
-    let st₂ = state (m b₂.store) b₂.filling in
+    let st = state_of m b in
+    let st₁ = state_of m b₁ in
+    let st₂ = state_of m b₂ in
     let h = c.in_ok-open.ensures in
     let o : Opened G st st₁ = h.after in
     let M : Matches G (at_start G) st₁ = keep_open G st st₁ (all_in st (ap is_ok (sym h.answer))) o in

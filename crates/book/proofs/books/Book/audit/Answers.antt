@@ -1,17 +1,18 @@
-use Rattle.std.proofs.Common.{sym}
+use Rattle.std.proofs.Common.{sym, subst₂}
 use Rattle.audit.proofs.First.{first_cong}
 use Rattle.audit.proofs.Same.{audited_cong}
-use Rattle.store.specs.Meaning.{absent_of}
-use Rattle.state.specs.States.{state, absent}
-use Rattle.state.proofs.Absents.{absent_beside}
+use Rattle.audit.specs.Audits.{Audited}
+use Rattle.state.specs.States.{size_of, absent}
+use Rattle.store.specs.Standing.{beside}
+use Rattle.book.specs.Books.{state_of}
 use Rattle.book.proofs.books.Book.audit.Goals as goal
 
 pub returns : goal.returns
 returns g c =
-    let b = c.args.self.now in
-    let m = g.S.ReadStore.means b.store in
-    let st = state m b.filling in
-    let bits = c.marks.result.bits in
-    audited_cong g.S.Block.BlockKind.group m.size (absent_of m bits) (absent st) m.block c.audit_beside.result
-    (first_cong (absent st) (absent_of m bits) m.size (λ s l. sym (absent_beside m b.filling c.size.result.number bits c.size.ensures c.marks.ensures s l)))
-    c.audit_beside.ensures
+    let G = g.S.Block.BlockKind.group in
+    let st = state_of g.S.ReadStore.means c.args.self.now in
+    let m' = beside (g.S.ReadStore.means c.standing.result.store.now) c.standing.result.also.bits in
+    let h = c.standing.ensures in
+    audited_cong G (size_of st) m'.out (absent st) st.store.block c.audit.result
+    (first_cong (absent st) m'.out (size_of st) (λ s l. sym (h.out s l)))
+    (subst₂ (λ n f. Audited G n m'.out f c.audit.result) h.size h.block c.audit.ensures)

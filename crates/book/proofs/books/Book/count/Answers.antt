@@ -1,7 +1,10 @@
-use Rattle.state.proofs.Absents.{counted_beside}
+use Rattle.std.proofs.Common.{◌∙◌}
+use Rattle.state.proofs.Absents.{out_counted}
+use Rattle.store.specs.Standing.{beside}
+use Rattle.book.specs.Books.{state_of}
 use Rattle.book.proofs.books.Book.count.Goals as goal
 
 pub returns : goal.returns
 returns g c =
-    counted_beside (g.S.ReadStore.means c.args.self.now.store) c.args.self.now.filling c.args.size.number c.marks.result.bits c.count_absent.result
-    c.requires c.marks.ensures c.count_absent.ensures
+    let m' = beside (g.S.ReadStore.means c.standing.result.store.now) c.standing.result.also.bits in
+    c.count_absent.ensures ∙ out_counted (state_of g.S.ReadStore.means c.args.self.now) m' c.standing.ensures
