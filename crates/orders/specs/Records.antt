@@ -8,8 +8,7 @@ use Rattle.faults.specs.declared.faults.Fault.{Fault}
 use Rattle.faults.specs.declared.faults.Fault.TheVariants.{WrongVersion, CutShort, UnknownLetter, WrongRecordLength}
 use Rattle.orders.specs.declared.records.Order.{Order}
 use Rattle.orders.specs.declared.records.Order.TheVariants.{Read, Write, Lose, Replace, Audit}
-use Rattle.orders.specs.declared.records.Reading.{Reading}
-use Rattle.orders.specs.declared.records.Reading.TheVariants.{Taken, Passed, Ended}
+use Rattle.orders.specs.declared.records.Record.{Record}
 
 -- what an order asks for, with the bytes themselves in place of a reference to them
 pub data Asked : Type 0 where
@@ -32,14 +31,17 @@ pub data Outcome : Type 0 where
   passes : Fault → ℕ → Outcome
   ends : Fault → Outcome
 
-abbrev pub read_as : Reading → Outcome
-read_as (Taken order len) = takes (asked order) len
-read_as (Passed fault len) = passes fault len
-read_as (Ended fault) = ends fault
+abbrev pub after_order : Result Asked Fault → ℕ → Outcome
+after_order (Ok order) n = takes order n
+after_order (Err fault) n = passes fault n
 
 abbrev pub ordered : Result Order Fault → Result Asked Fault
 ordered (Ok order) = Ok (asked order)
 ordered (Err fault) = Err fault
+
+abbrev pub read_as : Result Record Fault → Outcome
+read_as (Ok read) = after_order (ordered read.order) read.len
+read_as (Err fault) = ends fault
 
 -- an order of a letter, if the letter and the fields have n bytes
 abbrev pub of_length : List ℕ → ℕ → ℕ → Asked → Result Asked Fault
@@ -57,10 +59,6 @@ order_answer body at =
 
 abbrev pub record_length : List ℕ → ℕ
 record_length bs = slice_index bs 1 * 256 + slice_index bs 2
-
-abbrev pub after_order : Result Asked Fault → ℕ → Outcome
-after_order (Ok order) n = takes order n
-after_order (Err fault) n = passes fault n
 
 -- of the bytes from the record on: three bytes, the version, a length of 0, all there, and then the letter and its length
 abbrev pub front_answer : List ℕ → ℕ → Outcome

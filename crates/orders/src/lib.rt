@@ -4,5 +4,5 @@
 pub mod lines;
 pub mod records;
 
-pub use lines::{Reply, lay_line};
-pub use records::{Order, Reading, read_record};
+pub use lines::{LONGEST, Reply, lay_line};
+pub use records::{Order, Record, read_record};

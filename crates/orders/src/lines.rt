@@ -1,16 +1,18 @@
 // Lines of output: what is answered to an order, as text.
-ghost use Rattle.std.specs.Prelude.{◌≡◌, ◌+◌, ◌*◌, ◌<◌, ◌≤◌, ◌++◌, length, drop, is_ok, if◌then◌else◌, decimal};
-ghost use Rattle.orders.specs.Lines.{laid_at, hex_digit_lem, hex_text, block_text, verdict_text, refusal_text, reply_text, line, line_answer};
+ghost use Rattle.std.specs.Prelude.{◌≡◌, ◌<◌, ◌≤◌, length, is_ok, if◌then◌else◌, decimal};
+ghost use Rattle.orders.specs.Lines.{laid, block_text, reply_text, line, line_answer};
+ghost use Rattle.audit.specs.Audits.{verdict_text};
+ghost use Rattle.faults.specs.Refusals.{refusal_text};
 
 use audit::Verdict;
 use faults::Fault;
 use kinds::Block;
 
-// What is answered to an order.
-#[derive(Clone, Copy)]
-pub enum Reply {
+// What is answered to an order: a line has one of four forms. A refusal is one of them, and no error of whoever lays lines.
+#[derive(Clone, Copy, Debug, PartialEq, Eq)]
+pub enum Reply<B> {
     // the block that was read
-    Block(Block),
+    Block(B),
     // a write, a loss or a replacement is done
     Done,
     // what an audit found
@@ -18,117 +20,99 @@ pub enum Reply {
     Refused(Fault),
 }
 
-// Lays text in an area from an offset on, and answers where it ends.
-fn append(into: &mut [u8], at: usize, text: &[u8]) -> usize
-    requires { at + length text.now ≤ length into.old }
-    ensures end { result ≡ at + length text.now }
-    ensures into { into.new ≡ laid_at into.old at text.now }
+// The length of the longest line: that of a block, with its line end.
+pub const LONGEST: usize = 135;
+
+// Lays a text at the front of an area, and answers its length. It is no `write!`: no contract says that a `Display` comes
+// to its end, and a line in an area that is long enough is not refused.
+fn lay(text: &[u8], area: &mut [u8]) -> usize
+    requires { length text.now ≤ length area.old }
+    ensures length { result ≡ length text.now }
+    ensures area { area.new ≡ laid text.now area.old }
 {
-    let end = at + text.len();
-    into[at..end].copy_from_slice(text);
-    end
+    area[..text.len()].copy_from_slice(text);
+    text.len()
 }
 
 // The same with a number in decimal digits.
-fn append_number(into: &mut [u8], at: usize, n: usize) -> usize
-    requires { at + length (decimal n) ≤ length into.old }
-    ensures end { result ≡ at + length (decimal n) }
-    ensures into { into.new ≡ laid_at into.old at (decimal n) }
+#[tactic(auto, using(std::proofs::lemmas::Fmt::decimal_digit, std::proofs::lemmas::Fmt::decimal_step, crate::proofs::Laid::length_step))]
+fn lay_number(n: usize, area: &mut [u8]) -> usize
+    requires { length (decimal n) ≤ length area.old }
+    ensures length { result ≡ length (decimal n) }
+    ensures area { area.new ≡ laid (decimal n) area.old }
 {
     if n < 10 {
-        return append(into, at, &[b'0' + n as u8]);
+        return lay(&[b'0' + n as u8], area);
     }
-    let end = append_number(into, at, n / 10);
-    append(into, end, &[b'0' + (n % 10) as u8])
+    let end = lay_number(n / 10, area);
+    end + lay(&[b'0' + (n % 10) as u8], &mut area[end..])
 }
 
-fn hex_digit(d: u8) -> u8
-    requires { d < 16 }
-    ensures { result ≡ hex_digit_lem d }
+fn lay_block(block: Block, area: &mut [u8; LONGEST]) -> usize
+    ensures length { result ≡ length (block_text block) }
+    ensures short { result < 135 }
+    ensures area { area.new ≡ laid (block_text block) area.old }
 {
-    if d < 10 { b'0' + d } else { b'a' + (d - 10) }
+    let end = lay(b"block ", area);
+    end + lay(&block.hex_digits(), &mut area[end..])
 }
 
-// The same with two hexadecimal digits for each byte.
-fn append_hex(into: &mut [u8], at: usize, bytes: &[u8]) -> usize
-    requires { at + 2 * length bytes.now ≤ length into.old }
-    ensures end { result ≡ at + 2 * length bytes.now }
-    ensures into { into.new ≡ laid_at into.old at (hex_text bytes.now) }
-{
-    let mut end = at;
-    for byte in bytes {
-        let digits = [hex_digit(*byte / 16), hex_digit(*byte % 16)];
-        end = append(into, end, &digits);
-    }
-    end
-}
-
-fn lay_block(block: Block, into: &mut [u8]) -> usize
-    requires { 135 ≤ length into.old }
-    ensures end { result ≡ length (block_text block) }
-    ensures short { result ≤ 134 }
-    ensures into { into.new ≡ laid_at into.old 0 (block_text block) }
-{
-    let end = append(into, 0, b"block ");
-    append_hex(into, end, block.as_bytes())
-}
-
-fn lay_verdict(verdict: Verdict, into: &mut [u8]) -> usize
-    requires { 135 ≤ length into.old }
-    ensures end { result ≡ length (verdict_text verdict) }
-    ensures short { result ≤ 134 }
-    ensures into { into.new ≡ laid_at into.old 0 (verdict_text verdict) }
+#[tactic(auto, using(crate::proofs::Laid::short_decimal))]
+fn lay_verdict(verdict: Verdict, area: &mut [u8; LONGEST]) -> usize
+    ensures length { result ≡ length (verdict_text verdict) }
+    ensures short { result < 135 }
+    ensures area { area.new ≡ laid (verdict_text verdict) area.old }
 {
     match verdict {
-        Verdict::Sound => append(into, 0, b"sound"),
+        Verdict::Sound => lay(b"sound", area),
         Verdict::BrokenNeighbourhood(h) => {
-            let end = append(into, 0, b"broken S ");
-            append_number(into, end, usize::from(h))
+            let end = lay(b"broken S ", area);
+            end + lay_number(usize::from(h), &mut area[end..])
         }
         Verdict::BrokenDiagonal(m) => {
-            let end = append(into, 0, b"broken D ");
-            append_number(into, end, usize::from(m))
+            let end = lay(b"broken D ", area);
+            end + lay_number(usize::from(m), &mut area[end..])
         }
     }
 }
 
-fn lay_refusal(fault: Fault, into: &mut [u8]) -> usize
-    requires { 135 ≤ length into.old }
-    ensures end { result ≡ length (refusal_text fault) }
-    ensures short { result ≤ 134 }
-    ensures into { into.new ≡ laid_at into.old 0 (refusal_text fault) }
+#[tactic(auto, using(crate::proofs::Laid::short_decimal))]
+fn lay_refusal(fault: Fault, area: &mut [u8; LONGEST]) -> usize
+    ensures length { result ≡ length (refusal_text fault) }
+    ensures short { result < 135 }
+    ensures area { area.new ≡ laid (refusal_text fault) area.old }
 {
     let letter = fault.layer().letter() as u8;
-    let end = append(into, 0, b"no ");
-    let end = append_number(into, end, usize::from(fault.number()));
-    let end = append(into, end, &[b' ', letter, b' ']);
-    append_number(into, end, fault.place())
+    let mut end = lay(b"no ", area);
+    end += lay_number(usize::from(fault.number()), &mut area[end..]);
+    end += lay(&[b' ', letter, b' '], &mut area[end..]);
+    end + lay_number(fault.place(), &mut area[end..])
 }
 
 // The line without its end.
-fn lay_reply(reply: Reply, into: &mut [u8]) -> usize
-    requires { 135 ≤ length into.old }
-    ensures end { result ≡ length (reply_text reply) }
-    ensures short { result ≤ 134 }
-    ensures into { into.new ≡ laid_at into.old 0 (reply_text reply) }
+fn lay_reply(reply: Reply<Block>, area: &mut [u8; LONGEST]) -> usize
+    ensures length { result ≡ length (reply_text reply) }
+    ensures short { result < 135 }
+    ensures area { area.new ≡ laid (reply_text reply) area.old }
 {
     match reply {
-        Reply::Block(block) => lay_block(block, into),
-        Reply::Done => append(into, 0, b"done"),
-        Reply::Found(verdict) => lay_verdict(verdict, into),
-        Reply::Refused(fault) => lay_refusal(fault, into),
+        Reply::Block(block) => lay_block(block, area),
+        Reply::Done => lay(b"done", area),
+        Reply::Found(verdict) => lay_verdict(verdict, area),
+        Reply::Refused(fault) => lay_refusal(fault, area),
     }
 }
 
 // Lays the line of a reply, with its line end, at the front of an area, and answers its length. What stands in the area
 // after it stays. Refused by 3 b where the area has fewer than 135 bytes, the length of the longest line.
-pub fn lay_line(reply: &Reply, into: &mut [u8]) -> Result<usize, Fault>
+pub fn lay_line(reply: &Reply<Block>, into: &mut [u8]) -> Result<usize, Fault>
     ensures answer { result ≡ line_answer (length into.old) reply.now }
-    ensures into { into.new ≡ (if is_ok result then line reply.now ++ drop (length (line reply.now)) into.old else into.old) }
+    ensures into { into.new ≡ (if is_ok result then laid (line reply.now) into.old else into.old) }
 {
-    if into.len() < 135 {
-        return Err(Fault::AreaTooShort(into.len()));
-    }
-    let end = lay_reply(*reply, into);
-    Ok(append(into, end, b"\n"))
+    let len = into.len();
+    let Some(area) = into.first_chunk_mut::<LONGEST>() else {
+        return Err(Fault::AreaTooShort(len));
+    };
+    let end = lay_reply(*reply, area);
+    Ok(end + lay(b"\n", &mut area[end..]))
 }

@@ -5,7 +5,7 @@ ghost use Rattle.orders.specs.Records.{order_answer, front_answer, record_answer
 use faults::Fault;
 
 // What a record asks for. The bytes to be written stay a part of the input.
-#[derive(Clone, Copy)]
+#[derive(Clone, Copy, Debug, PartialEq, Eq)]
 pub enum Order<'a> {
     Read { a: u8, b: u8 },
     Write { a: u8, b: u8, bytes: &'a [u8] },
@@ -14,15 +14,11 @@ pub enum Order<'a> {
     Audit,
 }
 
-// What was read of a record.
-#[derive(Clone, Copy)]
-pub enum Reading<'a> {
-    // an order; its record has `len` bytes
-    Taken { order: Order<'a>, len: usize },
-    // a refused record of `len` bytes, after which the next one is read
-    Passed { fault: Fault, len: usize },
-    // a refused record, after which nothing is read
-    Ended(Fault),
+// A record that was read: what it asks for, or why it asks for nothing, and its length in bytes.
+#[derive(Clone, Copy, Debug, PartialEq, Eq)]
+pub struct Record<'a> {
+    pub order: Result<Order<'a>, Fault>,
+    pub len: usize,
 }
 
 // The order of a record's letter and fields, where the record begins at an offset. Refused by 17 r, then by 18 r.
@@ -46,40 +42,40 @@ fn read_order(body: &[u8], at: usize) -> Result<Order<'_>, Fault>
 }
 
 // Reads the record that the bytes begin with, where the first of them has an offset.
-fn read_front(left: &[u8], at: usize) -> Reading<'_>
+fn read_front(left: &[u8], at: usize) -> Result<Record<'_>, Fault>
     requires { at + length left.now < 2 ^ 64 }
     ensures { read_as result ≡ front_answer left.now at }
 {
     let [version, high, low, rest @ ..] = left else {
-        return Reading::Ended(Fault::CutShort(at));
+        return Err(Fault::CutShort(at));
     };
     if *version != 1 {
-        return Reading::Ended(Fault::WrongVersion(at));
+        return Err(Fault::WrongVersion(at));
     }
     let len = usize::from(u16::from_be_bytes([*high, *low]));
     if len == 0 {
-        return Reading::Passed {
-            fault: Fault::WrongRecordLength(at + 1),
+        return Ok(Record {
+            order: Err(Fault::WrongRecordLength(at + 1)),
             len: 3,
-        };
+        });
     }
     if rest.len() < len {
-        return Reading::Ended(Fault::CutShort(at));
+        return Err(Fault::CutShort(at));
     }
-    let whole = 3 + len;
-    match read_order(&rest[0..len], at) {
-        Ok(order) => Reading::Taken { order, len: whole },
-        Err(fault) => Reading::Passed { fault, len: whole },
-    }
+    Ok(Record {
+        order: read_order(&rest[..len], at),
+        len: 3 + len,
+    })
 }
 
-// Reads the record at an offset of the input. Refused, in this order: by 16 r where three bytes are not there, by 14 r,
-// by 18 r where the length is 0, by 16 r where the rest is not there, by 17 r, and by 18 r.
-pub fn read_record(input: &[u8], at: usize) -> Reading<'_>
+// Reads the record at an offset of the input. A fault in place of a record means that nothing is read after it. Refused,
+// in this order: by 16 r where three bytes are not there, by 14 r, by 18 r where the length is 0, by 16 r where the rest is
+// not there, by 17 r, and by 18 r.
+pub fn read_record(input: &[u8], at: usize) -> Result<Record<'_>, Fault>
     ensures { read_as result ≡ record_answer input.now at }
 {
-    if at > input.len() {
-        return Reading::Ended(Fault::CutShort(at));
+    match input.get(at..) {
+        Some(left) => read_front(left, at),
+        None => Err(Fault::CutShort(at)),
     }
-    read_front(&input[at..], at)
 }

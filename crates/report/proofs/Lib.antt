@@ -1,3 +1,3 @@
-mod Hexes
 mod Says
 mod Joins
+mod Hexes

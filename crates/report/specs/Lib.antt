@@ -1,3 +1,2 @@
-pub mod Digits
 pub mod Pairs
 pub mod Reports

@@ -1,24 +1,28 @@
 -- The lines of a report on the pairs of an image: a line for each pair, in place order.
 use Rattle.std.specs.Prelude.{◌≡◌, ℕ, zero, suc, ◌+◌, ◌*◌, Bool, true, false, ◌||◌, List, [], ◌∷◌, ◌++◌, Ok, Err, codes, decimal, Result}
 use Rattle.kinds.specs.Bytes.{byte_group}
-use Rattle.faults.specs.Faults.{written}
+use Rattle.kinds.specs.Texts.{hex_text}
+use Rattle.faults.specs.Refusals.{refusal_text}
 use Rattle.code.specs.Rebuilt.{Recovered}
 use Rattle.code.specs.Rules.{of}
 use Rattle.kinds.specs.declared.blocks.Block.{Block}
 use Rattle.faults.specs.declared.faults.Fault.{Fault}
 use Rattle.recovery.specs.Recovery.{recover_answer}
 use Rattle.store.specs.Meaning.{Meaning}
-use Rattle.report.specs.Digits.{hex}
+use Rattle.report.specs.declared.pairs.Content.{Content}
+use Rattle.report.specs.declared.pairs.Content.TheVariants.{Stored, Rebuilt, Lost}
 
--- "no" and the fault
-abbrev pub refusal_text : Fault → List ℕ
-refusal_text f = codes "no " ++ written f
+-- what is said of a pair
+abbrev pub content_text : Content → List ℕ
+content_text (Stored x) = codes "stored " ++ hex_text x.bytes
+content_text (Rebuilt x) = codes "rebuilt " ++ hex_text x.bytes
+content_text (Lost f) = refusal_text f
 
 -- of the pair of a and b, where neither station is out: the stored block; where one is: the recovered block, or the
 -- refusal of the recovery
 abbrev pub BlockText : Meaning Block → ℕ → ℕ → Bool → Result (Unit {0}) Fault → List ℕ → Type 0
-BlockText m a b false r text = text ≡ codes "stored " ++ hex (of m.block a b).bytes
-BlockText m a b true (Ok _) text = (x : Block) × (Recovered byte_group m.size m.out m.block a b x × (text ≡ codes "rebuilt " ++ hex x.bytes))
+BlockText m a b false r text = text ≡ codes "stored " ++ hex_text (of m.block a b).bytes
+BlockText m a b true (Ok _) text = (x : Block) × (Recovered byte_group m.size m.out m.block a b x × (text ≡ codes "rebuilt " ++ hex_text x.bytes))
 BlockText m a b true (Err e) text = text ≡ refusal_text e
 
 -- the same, with what recovery answers with a work area of 8 n blocks

@@ -3,12 +3,13 @@ use Rattle.std.specs.Prelude.{◌≡◌, ℕ, zero, suc, Bool, cond, List, [], �
 use Rattle.kinds.specs.Bytes.{byte_group}
 use Rattle.kinds.specs.Group.{Group}
 use Rattle.kinds.specs.declared.blocks.Block.{Block}
+use Rattle.faults.specs.Refusals.{refusal_text}
 use Rattle.faults.specs.declared.faults.Fault.{Fault}
 use Rattle.audit.specs.Audits.{Audited, verdict_text}
 use Rattle.image.specs.Images.{image_check, image_meaning}
 use Rattle.store.specs.Meaning.{Meaning}
 use Rattle.audit.specs.declared.audits.Verdict.{Verdict}
-use Rattle.report.specs.Pairs.{PairLines, refusal_text}
+use Rattle.report.specs.Pairs.{PairLines}
 
 abbrev pub audit_text : Result Verdict Fault → List ℕ
 audit_text (Ok v) = verdict_text v

@@ -1,64 +1,57 @@
 // The lines of a report on the pairs of an image.
-ghost use Rattle.std.specs.Prelude.{◌≡◌, ◌*◌, ◌<◌, ◌||◌, length, IfOk, string_bytes};
+ghost use Rattle.std.specs.Prelude.{◌≡◌, ◌*◌, ◌<◌, ◌++◌, length, IfOk, OnOk, Some, string_bytes};
 ghost use Rattle.image.specs.Images.{image_meaning};
-ghost use Rattle.report.specs.Pairs.{BlockSaid, PairLine, StationLines, PairLines};
+ghost use Rattle.report.specs.Pairs.{content_text, BlockSaid, StationLines, PairLines};
 
-use crate::digits::hex_text;
+use faults::Fault;
 use image::ReadImage;
 use kinds::{Block, BlockKind};
-use recovery::recover;
+use recovery::{recover, work_length};
 use std::alloc::{AllocError, Global};
+use std::fmt;
+use std::fmt::Write;
 use store::ReadStore;
 
-// Is one of two stations out?
-fn either_out(image: &ReadImage, a: u8, b: u8) -> bool
-    requires first { a < (image_meaning image.now.bytes.now).size }
-    requires second { b < (image_meaning image.now.bytes.now).size }
-    ensures { result ≡ ((image_meaning image.now.bytes.now).out a || (image_meaning image.now.bytes.now).out b) }
-{
-    matches!(image.is_in(a), Ok(false)) || matches!(image.is_in(b), Ok(false))
+// What a report says that a pair holds: its third column, of three forms.
+#[derive(Clone, Copy)]
+enum Content {
+    // the block that is stored, where both stations are in
+    Stored(Block),
+    // the block that recovery gives, where one is out
+    Rebuilt(Block),
+    // why recovery gives none
+    Lost(Fault),
 }
 
-// The block of a pair in digits, after a word that says whether it is stored or rebuilt; or the refusal.
-fn block_text(
-    heap: Global,
-    image: &ReadImage,
-    a: u8,
-    b: u8,
-    work: &mut [Block],
-) -> Result<String, AllocError>
+// The block in digits, after a word that says whether it is stored or rebuilt; or the refusal.
+impl fmt::Display for Content {
+    ghost output = { λ h. Some (content_text h) };
+
+    fn fmt<W: fmt::Write>(&self, f: &mut fmt::Formatter<W>) -> fmt::Result {
+        match self {
+            Content::Stored(block) => write!(f, "stored {block}"),
+            Content::Rebuilt(block) => write!(f, "rebuilt {block}"),
+            Content::Lost(fault) => write!(f, "no {fault}"),
+        }
+    }
+}
+
+// What the pair of two stations holds. The work area stands beside the image: a struct of both, written to pair after pair,
+// would have to say after each that the image is the same.
+fn content_of(image: &ReadImage, a: u8, b: u8, work: &mut [Block]) -> Content
     requires first { a < (image_meaning image.now.bytes.now).size }
     requires second { b < (image_meaning image.now.bytes.now).size }
     requires long { length work.old ≡ 8 * (image_meaning image.now.bytes.now).size }
-    ensures { IfOk result (λ t. BlockSaid (image_meaning image.now.bytes.now) a b (string_bytes t)) }
+    ensures { BlockSaid (image_meaning image.now.bytes.now) a b (content_text result) }
 {
     let mut block = Block::zero();
     if let Err(fault) = recover(image, a, b, work, &mut block) {
-        return format!(in heap; "no {fault}");
-    }
-    let digits = hex_text(heap, block.as_bytes())?;
-    if either_out(image, a, b) {
-        format!(in heap; "rebuilt {digits}")
+        Content::Lost(fault)
+    } else if image.is_out(a) || image.is_out(b) {
+        Content::Rebuilt(block)
     } else {
-        format!(in heap; "stored {digits}")
+        Content::Stored(block)
     }
-}
-
-// The line of a pair.
-fn pair_line(
-    heap: Global,
-    image: &ReadImage,
-    a: u8,
-    b: u8,
-    work: &mut [Block],
-) -> Result<String, AllocError>
-    requires first { a < (image_meaning image.now.bytes.now).size }
-    requires second { b < (image_meaning image.now.bytes.now).size }
-    requires long { length work.old ≡ 8 * (image_meaning image.now.bytes.now).size }
-    ensures { IfOk result (λ t. PairLine (image_meaning image.now.bytes.now) a b (string_bytes t)) }
-{
-    let block = block_text(heap, image, a, b, work)?;
-    format!(in heap; "pair {a} {b} {block}\n")
 }
 
 // The lines of the pairs of a station with the stations up to it.
@@ -74,8 +67,8 @@ fn station_lines(
 {
     let mut text = String::new(heap);
     for b in 0..=a {
-        let line = pair_line(heap, image, a, b, work)?;
-        text.push_str(line.as_str())?;
+        let content = content_of(image, a, b, work);
+        write!(text, "pair {a} {b} {content}\n")?;
     }
     Ok(text)
 }
@@ -97,7 +90,6 @@ fn all_lines(heap: Global, image: &ReadImage, work: &mut [Block]) -> Result<Stri
 pub fn pair_lines(heap: Global, image: &ReadImage) -> Result<String, AllocError>
     ensures { IfOk result (λ t. PairLines (image_meaning image.now.bytes.now) (string_bytes t)) }
 {
-    let length = 8 * usize::from(image.size().number());
-    let mut work = vec![in heap; Block::zero(); length]?;
+    let mut work = vec![in heap; Block::zero(); work_length(image.size())]?;
     all_lines(heap, image, work.as_mut_slice())
 }

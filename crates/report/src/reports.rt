@@ -1,5 +1,5 @@
 // Reports in text: what a store holds, line by line.
-ghost use Rattle.std.specs.Prelude.{◌≡◌, ◌&&◌, [], ◌∷◌, ◌++◌, IfOk, if◌then◌else◌, string_bytes, decimal, OnOk, nat_lt};
+ghost use Rattle.std.specs.Prelude.{◌≡◌, ◌&&◌, IfOk, string_bytes, nat_lt};
 ghost use Rattle.report.specs.Reports.{audit_text, listed, out_text, Inspected, ImageReported, Reported};
 ghost use Rattle.image.specs.Images.{image_meaning};
 
@@ -8,6 +8,7 @@ use audit::{Verdict, audit};
 use faults::Fault;
 use image::{ReadImage, check_image};
 use std::alloc::{AllocError, Global};
+use std::fmt::Write;
 use store::ReadStore;
 
 // The line of an audit's answer, without its end.
@@ -20,31 +21,15 @@ fn audit_line(heap: Global, answer: Result<Verdict, Fault>) -> Result<String, Al
     }
 }
 
-// Is station s out?
-fn is_out<S: ReadStore>(store: &S, s: u8) -> bool
-    ensures { result ≡ (nat_lt s (S.means store.now).size && (S.means store.now).out s) }
-{
-    matches!(store.is_in(s), Ok(false))
-}
-
-// Appends a space and the number s, where it is wanted.
-fn append_station(heap: Global, text: &mut String, s: u8, wanted: bool) -> Result<(), AllocError>
-    ensures { OnOk result (string_bytes text.new ≡ string_bytes text.old ++ (if wanted then 32 ∷ decimal s else [])) }
-{
-    if !wanted {
-        return Ok(());
-    }
-    let number = format!(in heap; " {s}")?;
-    text.push_str(number.as_str())
-}
-
 // The numbers of the stations that are out, each after a space.
 fn out_stations<S: ReadStore>(heap: Global, store: &S) -> Result<String, AllocError>
     ensures { IfOk result (λ t. string_bytes t ≡ listed (S.means store.now).out (S.means store.now).size) }
 {
     let mut text = String::new(heap);
     for s in 0..store.size().number() {
-        append_station(heap, &mut text, s, is_out(store, s))?;
+        if store.is_out(s) {
+            write!(text, " {s}")?;
+        }
     }
     Ok(text)
 }

@@ -10,10 +10,8 @@ use Rattle.store.specs.Meaning.{Meaning, Written}
 use Rattle.state.specs.Calls.{fill_answer, too_many, Filled, FilledNext}
 use Rattle.state.specs.Fillings.{stepped}
 use Rattle.book.specs.Tickets.{ticket_after}
-use Rattle.state.specs.States.{State, state, size_of, absent, absent_count, being_filled, Sound, SoundAt}
-use Rattle.state.specs.declared.records.Filling.TheVariants.{At}
-use Rattle.book.specs.declared.tickets.FullTicket.{FullTicket}
-use Rattle.book.specs.declared.tickets.OpenTicket.{OpenTicket}
+use Rattle.state.specs.States.{State, state, size_of, absent, absent_count, being_filled, filling_at, Sound, SoundAt}
+use Rattle.book.specs.declared.tickets.TicketOf.{TicketOf}
 use Rattle.book.specs.declared.tickets.Ticket.TheVariants.{Open, Full}
 use Rattle.serve.specs.Matches.{Matches}
 use Rattle.serve.proofs.Keeps.{keep_fill}
@@ -45,7 +43,7 @@ module _ {B : Type 0} (G : Group B) (st : State B) (s len : ℕ) (can : CanFillU
   }
 
   -- s is one of the stations, and in
-  sound_start : SoundAt (size_of st) st.store.out (At s 0)
+  sound_start : SoundAt (size_of st) st.store.out (filling_at s 0)
   sound_start = subst (SoundAt (size_of st) st.store.out) can.filling can.sound
 
   module _ (k : ℕ) (st₁ : State B) (F : FilledTo G st s k st₁) where
@@ -73,10 +71,10 @@ module _ {B : Type 0} (G : Group B) (st : State B) (s len : ℕ) (can : CanFillU
     pub one_more : (st₂ : State B) → k < size_of st → FilledNext G st₁ st₁.filling st₂.store → st₂.filling ≡ stepped (size_of st₁) st₁.filling → FilledTo G st s (k + 1) st₂
     one_more st₂ l next e =
         let l₁ : k < size_of st₁ = omega (arith, F.size) in
-        let next' : FilledNext G (state st₁.store (At s k)) (At s k) st₂.store = subst (λ f. FilledNext G (state st₁.store f) f st₂.store) F.filling next in
-        let fr = framed G (state st₁.store (At s k)) s k st₂.store (next'.0 l₁) in
-        let step : stepped (size_of st₁) (At s k) ≡ At s (k + 1) = ap (λ c. cond c (At s (k + 1)) (At s k)) (lt-ltb k (size_of st₁) l₁) in
-        let at : st₂.filling ≡ At s (k + 1) = e ∙ ap (stepped (size_of st₁)) F.filling ∙ step in
+        let next' : FilledNext G (state st₁.store (filling_at s k)) (filling_at s k) st₂.store = subst (λ f. FilledNext G (state st₁.store f) f st₂.store) F.filling next in
+        let fr = framed G (state st₁.store (filling_at s k)) s k st₂.store (next'.0 l₁) in
+        let step : stepped (size_of st₁) (filling_at s k) ≡ filling_at s (k + 1) = ap (λ c. cond c (filling_at s (k + 1)) (filling_at s k)) (lt-ltb k (size_of st₁) l₁) in
+        let at : st₂.filling ≡ filling_at s (k + 1) = e ∙ ap (stepped (size_of st₁)) F.filling ∙ step in
         record {
           size = fr.size ∙ F.size;
           out = λ j lj. fr.out j (omega (arith, F.size)) ∙ F.out j lj;
@@ -84,21 +82,21 @@ module _ {B : Type 0} (G : Group B) (st : State B) (s len : ℕ) (can : CanFillU
           filling = at;
           within = omega arith;
           keeps = λ t M.
-              let M₁ : Matches G (with_filling t (At s k)) (state st₁.store (At s k)) = subst (λ f. Matches G (with_filling t (At s k)) (state st₁.store f)) F.filling (F.keeps t M) in
-              let few' : too_many (state st₁.store (At s k)) ≡ false = subst (λ f. too_many (state st₁.store f) ≡ false) F.filling few_at in
-              subst (λ f. Matches G (with_filling t (At s (k + 1))) (state st₂.store f)) (sym at)
-              (subst (λ f. Matches G (with_filling t f) (state st₂.store f)) step (keep_fill G (with_filling t (At s k)) st₁.store st₂.store s k M₁ few' next'));
+              let M₁ : Matches G (with_filling t (filling_at s k)) (state st₁.store (filling_at s k)) = subst (λ f. Matches G (with_filling t (filling_at s k)) (state st₁.store f)) F.filling (F.keeps t M) in
+              let few' : too_many (state st₁.store (filling_at s k)) ≡ false = subst (λ f. too_many (state st₁.store f) ≡ false) F.filling few_at in
+              subst (λ f. Matches G (with_filling t (filling_at s (k + 1))) (state st₂.store f)) (sym at)
+              (subst (λ f. Matches G (with_filling t f) (state st₂.store f)) step (keep_fill G (with_filling t (filling_at s k)) st₁.store st₂.store s k M₁ few' next'));
         }
 
 -- which ticket came out
-pub full_at : (n next t : ℕ) (f : FullTicket) → Full f ≡ ticket_after n next t → (n ≤ next) × (f.station ≡ t)
+pub full_at : (n next t : ℕ) (f : TicketOf 1) → Full f ≡ ticket_after n next t → (n ≤ next) × (f.station ≡ t)
 full_at n next t f e = go (ltb next n) refl e
   where
     go : (b : Bool) → ltb next n ≡ b → Full f ≡ cond b (Open (record { station = t })) (Full (record { station = t })) → (n ≤ next) × (f.station ≡ t)
     go true h q = let z : ◌≡◌ {A = ℕ} 0 1 = cc in absurd (omega arith)
     go false h q = (ltb-false next n h, let r : f ≡ record { station = t } = cc in ap (λ x. x.station) r)
 
-pub open_at : (n next t : ℕ) (o : OpenTicket) → Open o ≡ ticket_after n next t → (next < n) × (o.station ≡ t)
+pub open_at : (n next t : ℕ) (o : TicketOf 0) → Open o ≡ ticket_after n next t → (next < n) × (o.station ≡ t)
 open_at n next t o e = go (ltb next n) refl e
   where
     go : (b : Bool) → ltb next n ≡ b → Open o ≡ cond b (Open (record { station = t })) (Full (record { station = t })) → (next < n) × (o.station ≡ t)

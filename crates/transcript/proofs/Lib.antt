@@ -4,7 +4,5 @@ mod Answered
 mod Performed
 mod Steps
 mod Records
-mod Copied
 mod ReadOn
 mod Opened
-mod Made

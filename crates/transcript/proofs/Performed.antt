@@ -15,7 +15,7 @@ use Rattle.state.specs.Calls.{read_answer, write_answer, lose_answer, Wrote}
 use Rattle.state.specs.States.{State, state, size_of, absent}
 use Rattle.state.specs.declared.records.Filling.{Filling}
 use Rattle.state.proofs.Fillings.{did, left_alone}
-use Rattle.transcript.specs.declared.requests.Response.TheVariants as response
+use Rattle.orders.specs.declared.lines.Reply.TheVariants as reply
 use Rattle.serve.specs.Matches.{Matches}
 use Rattle.serve.specs.Refusals.{by_refusal}
 use Rattle.serve.specs.Tally.{Tally}
@@ -32,30 +32,34 @@ use Rattle.transcript.proofs.Answered.{read_as, write_as, lose_as, replace_as}
 
 module _ {B : Type 0} (G : Group B) (t : Tally B) (st : State B) (len : ℕ) (R : Ready G t st len) where
   -- a refusal leaves the book as it was
-  pub refused : (q : Request B) (f : Fault) → refusal (size_of st) t q ≡ Some f → Performed G t st len q (response.Refused f) st
+  pub refused : (q : Request B) (f : Fault) → refusal (size_of st) t q ≡ Some f → Performed G t st len (Ok q) (reply.Refused f) st
   refused q f e = record {
-    reply = sym (ap (λ o. by_refusal o (granted (size_of st) t q) (λ f. response.Refused f)) e);
+    reply = sym (ap (λ o. by_refusal o (granted (size_of st) t q) (λ f. reply.Refused f)) e);
     size = refl;
     ready = subst (λ o. Ready G (by_refusal o (leaves (size_of st) t q) (λ _. t)) st len) (sym e) R;
   }
 
+  -- a record that is no request
+  pub unread : (f : Fault) → Performed G t st len (Err f) (reply.Refused f) st
+  unread f = record { reply = refl; size = refl; ready = R }
+
   -- a call that hands out nothing
-  concluded : (q : Request B) (st' : State B) (o : Option Fault) (r : Result (Unit {0}) Fault) → refusal (size_of st) t q ≡ o → r ≡ outcome o → granted (size_of st) t q ≡ response.Done
+  concluded : (q : Request B) (st' : State B) (o : Option Fault) (r : Result (Unit {0}) Fault) → refusal (size_of st) t q ≡ o → r ≡ outcome o → granted (size_of st) t q ≡ reply.Done
       → (r ≡ Ok tt → Ready G (leaves (size_of st) t q) st' len × (size_of st' ≡ size_of st)) → ((f : Fault) → r ≡ Err f → st' ≡ st)
-      → Performed G t st len q (done_reply r) st'
+      → Performed G t st len (Ok q) (done_reply r) st'
   unfolding outcome
   concluded q st' None r e h d ok bad = record {
-    reply = ap done_reply h ∙ sym (ap (λ o. by_refusal o (granted (size_of st) t q) (λ f. response.Refused f)) e ∙ d);
+    reply = ap done_reply h ∙ sym (ap (λ o. by_refusal o (granted (size_of st) t q) (λ f. reply.Refused f)) e ∙ d);
     size = (ok h).1;
     ready = subst (λ o. Ready G (by_refusal o (leaves (size_of st) t q) (λ _. t)) st' len) (sym e) (ok h).0;
   }
   concluded q st' (Some f) r e h d ok bad = record {
-    reply = ap done_reply h ∙ sym (ap (λ o. by_refusal o (granted (size_of st) t q) (λ f. response.Refused f)) e);
+    reply = ap done_reply h ∙ sym (ap (λ o. by_refusal o (granted (size_of st) t q) (λ f. reply.Refused f)) e);
     size = ap size_of (bad f h);
     ready = subst (λ o. Ready G (by_refusal o (leaves (size_of st) t q) (λ _. t)) st' len) (sym e) (subst (λ s. Ready G t s len) (sym (bad f h)) R);
   }
 
-  pub performed_write : (a b : ℕ) (x : B) (st' : State B) (r : Result (Unit {0}) Fault) → r ≡ write_answer st len a b → After r (Wrote G st a b x st') (st' ≡ st) → Performed G t st len (Write a b x) (done_reply r) st'
+  pub performed_write : (a b : ℕ) (x : B) (st' : State B) (r : Result (Unit {0}) Fault) → r ≡ write_answer st len a b → After r (Wrote G st a b x st') (st' ≡ st) → Performed G t st len (Ok (Write a b x)) (done_reply r) st'
   performed_write a b x st' r e h =
       concluded (Write a b x) st' (refusal (size_of st) t (Write a b x)) r refl (e ∙ write_as G t st len R a b x) refl
       (λ ok.
@@ -67,8 +71,8 @@ module _ {B : Type 0} (G : Group B) (t : Tally B) (st : State B) (len : ℕ) (R 
   lose_fine : (s : ℕ) → lose_answer st s ≡ Ok tt → absent st s ≡ false
   lose_fine s e = let h : is_ok (lose_answer st s) ≡ true = ap is_ok e in grind (arith, nat_tests)
 
-  pub performed_lose : (s : ℕ) (m' : Meaning B) (f' : Filling) (r : Result (Unit {0}) Fault) → r ≡ lose_answer st s → After r (Remarked st.store s true m') (m' ≡ st.store) → f' ≡ st.filling
-      → Performed G t st len (Lose s) (done_reply r) (state m' f')
+  pub performed_lose : (s : ℕ) (m' : Meaning B) (f' : Option Filling) (r : Result (Unit {0}) Fault) → r ≡ lose_answer st s → After r (Remarked st.store s true m') (m' ≡ st.store) → f' ≡ st.filling
+      → Performed G t st len (Ok (Lose s)) (done_reply r) (state m' f')
   performed_lose s m' f' r e h ef =
       concluded (Lose s) (state m' f') (refusal (size_of st) t (Lose s)) r refl (e ∙ lose_as G t st len R s) refl
       (λ ok.
@@ -82,7 +86,7 @@ module _ {B : Type 0} (G : Group B) (t : Tally B) (st : State B) (len : ℕ) (R 
       ))
       (λ f bad. ap₂ state (left_alone r (Remarked st.store s true m') (m' ≡ st.store) (ap is_ok bad) h) ef)
 
-  pub performed_replace : (s : ℕ) (st' : State B) (r : Result (Unit {0}) Fault) → r ≡ replace_answer st len s → After r (Replaced G st s st') (st' ≡ st) → Performed G t st len (Replace s) (done_reply r) st'
+  pub performed_replace : (s : ℕ) (st' : State B) (r : Result (Unit {0}) Fault) → r ≡ replace_answer st len s → After r (Replaced G st s st') (st' ≡ st) → Performed G t st len (Ok (Replace s)) (done_reply r) st'
   performed_replace s st' r e h =
       concluded (Replace s) st' (refusal (size_of st) t (Replace s)) r refl (e ∙ replace_as G t st len R s) refl
       (λ ok.
@@ -90,17 +94,17 @@ module _ {B : Type 0} (G : Group B) (t : Tally B) (st : State B) (len : ℕ) (R 
       (record { matched = K.keeps t R.matched; idle = K.filling; long = omega (arith, R.long, ap (λ k. 8 * k) K.size) }, K.size))
       (λ f bad. left_alone r (Replaced G st s st') (st' ≡ st) (ap is_ok bad) h)
 
-  pub performed_read : (a b : ℕ) (x : B) → Ok tt ≡ read_answer st len a b → Recovered G (size_of st) (absent st) st.store.block a b x → Performed G t st len (Read a b) (response.Block x) st
+  pub performed_read : (a b : ℕ) (x : B) → Ok tt ≡ read_answer st len a b → Recovered G (size_of st) (absent st) st.store.block a b x → Performed G t st len (Ok (Read a b)) (reply.Block x) st
   performed_read a b x e h =
       let p = read_has st len a b (ap is_ok (sym e)) in
       let o : refusal (size_of st) t (Read a b) ≡ None = outcome_none (refusal (size_of st) t (Read a b)) (sym (read_as G t st len R a b) ∙ sym e) in
       record {
-        reply = ap (λ y. response.Block y) (last_write_read G t st R.matched a b x (pair_fine st len a b p.0) h p.1) ∙ sym (ap (λ o. by_refusal o (granted (size_of st) t (Read a b)) (λ f. response.Refused f)) o);
+        reply = ap (λ y. reply.Block y) (last_write_read G t st R.matched a b x (pair_fine st len a b p.0) h p.1) ∙ sym (ap (λ o. by_refusal o (granted (size_of st) t (Read a b)) (λ f. reply.Refused f)) o);
         size = refl;
         ready = subst (λ o. Ready G (by_refusal o t (λ _. t)) st len) (sym o) R;
       }
 
-  pub refused_read : (a b : ℕ) (f : Fault) → Err f ≡ read_answer st len a b → Performed G t st len (Read a b) (response.Refused f) st
+  pub refused_read : (a b : ℕ) (f : Fault) → Err f ≡ read_answer st len a b → Performed G t st len (Ok (Read a b)) (reply.Refused f) st
   refused_read a b f e = refused (Read a b) f (outcome_some (refusal (size_of st) t (Read a b)) f (sym (read_as G t st len R a b) ∙ sym e))
 
   -- with all stations standing, the store holds a codeword
@@ -121,14 +125,14 @@ module _ {B : Type 0} (G : Group B) (t : Tally B) (st : State B) (len : ℕ) (R 
   same_first : first t.absent (size_of st) ≡ first (absent st) (size_of st)
   same_first = first_cong t.absent (absent st) (size_of st) R.matched.gone
 
-  pub performed_audit : (v : Verdict) → Audited G (size_of st) (absent st) st.store.block (Ok v) → Performed G t st len Audit (response.Found v) st
+  pub performed_audit : (v : Verdict) → Audited G (size_of st) (absent st) st.store.block (Ok v) → Performed G t st len (Ok Audit) (reply.Found v) st
   performed_audit v h =
       let o : refusal (size_of st) t Audit ≡ None = ap (audit_refusal (size_of st) t) (same_first ∙ h.0) in
       record {
-        reply = ap (λ w. response.Found w) (sound v h.1 (whole h.0)) ∙ sym (ap (λ o. by_refusal o (response.Found Sound) (λ f. response.Refused f)) o);
+        reply = ap (λ w. reply.Found w) (sound v h.1 (whole h.0)) ∙ sym (ap (λ o. by_refusal o (reply.Found Sound) (λ f. reply.Refused f)) o);
         size = refl;
         ready = subst (λ o. Ready G (by_refusal o t (λ _. t)) st len) (sym o) R;
       }
 
-  pub refused_audit : (f : Fault) → Audited G (size_of st) (absent st) st.store.block (Err f) → Performed G t st len Audit (response.Refused f) st
+  pub refused_audit : (f : Fault) → Audited G (size_of st) (absent st) st.store.block (Err f) → Performed G t st len (Ok Audit) (reply.Refused f) st
   refused_audit f h = refused Audit f (ap (audit_refusal (size_of st) t) (same_first ∙ h.1) ∙ sym (ap Some h.2))

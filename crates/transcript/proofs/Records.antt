@@ -1,8 +1,9 @@
--- A record that is taken or passed ends within the input.
-use Rattle.std.proofs.Common.{◌≡◌, ℕ, ◌+◌, ◌<◌, ◌≤◌, Bool, true, false, cond, eqb, ltb, List, length, get_or, take, drop, Ok, Err, Result, sym, refl, subst, arith, length-drop}
+-- A record that is read ends within the input.
+use Rattle.std.proofs.Common.{◌≡◌, ℕ, ◌+◌, ◌-◌, ◌<◌, ◌≤◌, Bool, true, false, cond, eqb, ltb, List, length, get_or, take, drop, Ok, Err, Result, sym, refl, subst, arith, length-drop}
 use Rattle.std.proofs.lemmas.Bool.{ltb-false}
 use Rattle.faults.specs.declared.faults.Fault.{Fault}
 use Rattle.faults.specs.declared.faults.Fault.TheVariants.{WrongVersion, CutShort, WrongRecordLength}
+use Rattle.transcript.specs.Sessions.{next_at}
 use Rattle.orders.specs.Records.{Asked, Outcome, takes, passes, ends, after_order, order_answer, record_length, front_answer, record_answer}
 
 -- one byte at least, and no more than there are
@@ -45,15 +46,28 @@ front_within bs at =
     (λ whole. order_within (length bs) (3 + record_length bs) (order_answer (take (record_length bs) (drop 3 bs)) at) (omega arith) (ltb-false (length bs) (3 + record_length bs) whole))))
     (λ _. tt))
 
--- of the record at an offset
-pub taken_within : (input : List ℕ) (at : ℕ) (order : Asked) (len : ℕ) → takes order len ≡ record_answer input at → (0 < len) × (at + len ≤ length input)
+order_in : (n len : ℕ) (r : Result Asked Fault) → Within n (after_order r len) → (0 < len) × (len ≤ n)
 unfolding Within
-taken_within input at order len e =
-    let w : Within (length (drop at input)) (takes order len) = subst (Within (length (drop at input))) (sym e) (front_within (drop at input) at) in
+order_in n len (Ok order) w = w
+order_in n len (Err fault) w = w
+
+-- of the record at an offset
+pub record_within : (input : List ℕ) (at len : ℕ) (r : Result Asked Fault) → after_order r len ≡ record_answer input at → (0 < len) × (at + len ≤ length input)
+record_within input at len r e =
+    let w = order_in (length (drop at input)) len r (subst (Within (length (drop at input))) (sym e) (front_within (drop at input) at)) in
     (w.0, omega (arith, w.0, w.1, length-drop at input))
 
-pub passed_within : (input : List ℕ) (at : ℕ) (fault : Fault) (len : ℕ) → passes fault len ≡ record_answer input at → (0 < len) × (at + len ≤ length input)
+-- where the next one begins
+pub next_after : (input : List ℕ) (at len : ℕ) (r : Result Asked Fault) → next_at input at (after_order r len) ≡ at + len
+next_after input at len (Ok order) = refl
+next_after input at len (Err fault) = refl
+
+-- it is further on
+pub forward : (input : List ℕ) (at : ℕ) → at < length input → at < next_at input at (record_answer input at)
 unfolding Within
-passed_within input at fault len e =
-    let w : Within (length (drop at input)) (passes fault len) = subst (Within (length (drop at input))) (sym e) (front_within (drop at input) at) in
-    (w.0, omega (arith, w.0, w.1, length-drop at input))
+forward input at l = go (record_answer input at) (subst (λ n. Within n (record_answer input at)) (length-drop at input) (front_within (drop at input) at))
+  where
+    go : (o : Outcome) → Within (length input - at) o → at < next_at input at o
+    go (takes order len) w = omega (arith, w.0)
+    go (passes fault len) w = omega (arith, w.0)
+    go (ends fault) w = l

@@ -1,5 +1,5 @@
 -- A station that is fitted, filled with every partner and finished stands again.
-use Rattle.std.proofs.Common.{◌≡◌, ℕ, ◌*◌, ◌<◌, ◌≤◌, true, false, cond, ◌||◌, eqb, ltb, is_ok, Ok, sym, refl, ap, ◌∙◌, subst, ap₂, inl, inr, arith}
+use Rattle.std.proofs.Common.{◌≡◌, ℕ, ◌*◌, ◌<◌, ◌≤◌, true, false, cond, ◌||◌, eqb, ltb, is_ok, Some, None, Ok, Option, sym, refl, ap, ◌∙◌, subst, ap₂, inl, inr, arith}
 use Rattle.std.proofs.lemmas.Bool.{cases_eq, both_ways, eq-eqb, ne_eqb, or_right, cond-true}
 use Rattle.std.proofs.lemmas.Bool.Decides.{nat_tests}
 use Rattle.kinds.specs.Group.{Group}
@@ -9,9 +9,8 @@ use Rattle.code.proofs.Absent.{absentees_cong}
 use Rattle.store.specs.Meaning.{Remarked}
 use Rattle.state.specs.Calls.{fit_answer, finish_answer, none_filled, too_many}
 use Rattle.state.specs.Fillings.{next_of}
-use Rattle.state.specs.States.{State, state, size_of, absent, being_filled, SoundAt}
+use Rattle.state.specs.States.{State, state, size_of, absent, being_filled, filling_at, SoundAt}
 use Rattle.state.specs.declared.records.Filling.{Filling}
-use Rattle.state.specs.declared.records.Filling.TheVariants.{Idle, At}
 use Rattle.serve.specs.Matches.{Matches}
 use Rattle.serve.proofs.Keeps.{keep_fit, keep_finish}
 use Rattle.transcript.specs.Replaces.{CanFillUp, FilledTo, Replaced, with_filling, restored}
@@ -20,7 +19,7 @@ use Rattle.transcript.specs.Replaces.{CanFillUp, FilledTo, Replaced, with_fillin
 pub record Fits {B : Type 0} (st : State B) (s : ℕ) : Type 0 where
   pub station : s < size_of st
   pub out : st.store.out s ≡ true
-  pub idle : st.filling ≡ Idle
+  pub idle : st.filling ≡ None
   pub few : too_many st ≡ false
 
 pub fits : {B : Type 0} (st : State B) (s : ℕ) → fit_answer st s ≡ Ok tt → Fits st s
@@ -32,15 +31,15 @@ fits st s e = record { station = grind (arith, nat_tests, ok); out = grind (arit
     last : is_ok (none_filled st st.filling) ≡ true
     last = grind (arith, nat_tests, ok)
 
-    idle_of : (f : Filling) → is_ok (none_filled st f) ≡ true → f ≡ Idle
-    idle_of Idle h = refl
-    idle_of (At u k) h = absurd (both_ways false refl h)
+    idle_of : (f : Option Filling) → is_ok (none_filled st f) ≡ true → f ≡ None
+    idle_of None h = refl
+    idle_of (Some u) h = absurd (both_ways false refl h)
 
-    few_of : (f : Filling) → is_ok (none_filled st f) ≡ true → too_many st ≡ false
-    few_of Idle h = grind (arith, nat_tests, h)
-    few_of (At u k) h = absurd (both_ways false refl h)
+    few_of : (f : Option Filling) → is_ok (none_filled st f) ≡ true → too_many st ≡ false
+    few_of None h = grind (arith, nat_tests, h)
+    few_of (Some u) h = absurd (both_ways false refl h)
 
-module _ {B : Type 0} (G : Group B) (st st₁ : State B) (s : ℕ) (fit : Fits st s) (R : Remarked st.store s false st₁.store) (begun : st₁.filling ≡ At s 0) where
+module _ {B : Type 0} (G : Group B) (st st₁ : State B) (s : ℕ) (fit : Fits st s) (R : Remarked st.store s false st₁.store) (begun : st₁.filling ≡ filling_at s 0) where
   out_there : st₁.store.out s ≡ false
   out_there = R.out s fit.station ∙ cond-true (eqb s s) false (st.store.out s) (eq-eqb s s refl)
 
@@ -69,18 +68,18 @@ module _ {B : Type 0} (G : Group B) (st st₁ : State B) (s : ℕ) (fit : Fits s
         let v : eqb (next_of st₂.filling) (size_of st₂) ≡ true = eq-eqb (next_of st₂.filling) (size_of st₂) (ap next_of F.filling ∙ sym F.size) in
         rw (u, v)
 
-    pub stands : (st₃ : State B) → st₃.store ≡ st₂.store → st₃.filling ≡ Idle → Replaced G st s st₃
+    pub stands : (st₃ : State B) → st₃.store ≡ st₂.store → st₃.filling ≡ None → Replaced G st s st₃
     stands st₃ e i = record {
       size = ap (λ m. m.size) e ∙ F.size ∙ R.size;
       out = λ k l. ap (λ m. m.out k) e ∙ F.out k (omega (arith, R.size)) ∙ R.out k l;
       others = λ p q lp lq np nq. ap (λ m. of m.block p q) e ∙ F.others p q (omega (arith, R.size)) (omega (arith, R.size)) np nq ∙ R.others p q lp lq np nq;
       filling = i;
       keeps = λ t M.
-          let M₀ : Matches G t (state st.store Idle) = subst (λ f. Matches G t (state st.store f)) fit.idle M in
-          let M₁ : Matches G (with_filling t (At s 0)) st₁ = subst (λ f. Matches G (with_filling t (At s 0)) (state st₁.store f)) (sym begun) (keep_fit G t st.store st₁.store s M₀ fit.station fit.out R) in
-          let M₂ : Matches G (with_filling t (At s (size_of st₁))) st₂ = F.keeps (with_filling t (At s 0)) M₁ in
-          let at : st₂.filling ≡ At s (size_of st₂) = F.filling ∙ ap (At s) (sym F.size) in
-          let M₃ : Matches G (with_filling t (At s (size_of st₁))) (state st₂.store (At s (size_of st₂))) = subst (λ f. Matches G (with_filling t (At s (size_of st₁))) (state st₂.store f)) at M₂ in
+          let M₀ : Matches G t (state st.store None) = subst (λ f. Matches G t (state st.store f)) fit.idle M in
+          let M₁ : Matches G (with_filling t (filling_at s 0)) st₁ = subst (λ f. Matches G (with_filling t (filling_at s 0)) (state st₁.store f)) (sym begun) (keep_fit G t st.store st₁.store s M₀ fit.station fit.out R) in
+          let M₂ : Matches G (with_filling t (filling_at s (size_of st₁))) st₂ = F.keeps (with_filling t (filling_at s 0)) M₁ in
+          let at : st₂.filling ≡ filling_at s (size_of st₂) = F.filling ∙ ap (filling_at s) (sym F.size) in
+          let M₃ : Matches G (with_filling t (filling_at s (size_of st₁))) (state st₂.store (filling_at s (size_of st₂))) = subst (λ f. Matches G (with_filling t (filling_at s (size_of st₁))) (state st₂.store f)) at M₂ in
           subst (λ m. Matches G (restored t s) (state m st₃.filling)) (sym e)
-          (subst (λ f. Matches G (restored t s) (state st₂.store f)) (sym i) (keep_finish G (with_filling t (At s (size_of st₁))) st₂.store s M₃));
+          (subst (λ f. Matches G (restored t s) (state st₂.store f)) (sym i) (keep_finish G (with_filling t (filling_at s (size_of st₁))) st₂.store s M₃));
     }

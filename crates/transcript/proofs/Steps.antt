@@ -1,6 +1,7 @@
 -- Requests made one after the other.
 use Rattle.std.proofs.Common.{◌≡◌, ℕ, ◌+◌, ◌<◌, ◌≤◌, List, [], ◌∷◌, ◌++◌, length, get_or, take, drop, set, sym, refl, ap, ◌∙◌, subst, ap₂, arith}
-use Rattle.std.proofs.lemmas.List.{append-nil, append_assoc, map-append, map-set, get_or-map, set-get_or, take_more_set, take_all, drop_more, drop_all, drop-set-lt}
+use Rattle.std.proofs.Math.Seq.{map-set_same}
+use Rattle.std.proofs.lemmas.List.{append-nil, append_assoc, map-append, take_more_set, take_all, drop_more, drop_all, drop-set-lt}
 use Rattle.kinds.specs.Group.{Group}
 use Rattle.state.specs.States.{State, size_of}
 use Rattle.serve.specs.Tally.{Tally}
@@ -14,13 +15,6 @@ pub record PerformedTo {B : Type 0} (G : Group B) (t : Tally B) (st : State B) (
   pub ready : Ready G now st' len
   pub size : size_of st' ≡ size_of st
   pub rest : replies_of (take i steps) ++ replies (size_of st) now (requests_of (drop i steps)) ≡ replies (size_of st) t (requests_of steps)
-
--- a reply laid beside its request leaves the requests
-pub requests_stay : {B : Type 0} (steps : List (Step B)) (i : ℕ) (y d : Step B) → i < length steps → y.request ≡ (get_or steps i d).request → requests_of (set steps i y) ≡ requests_of steps
-requests_stay steps i y d l e =
-    map-set (λ step. step.request) steps i y
-    ∙ ap (set (requests_of steps) i) (e ∙ sym (get_or-map (λ step. step.request) steps i d d.request l))
-    ∙ set-get_or (requests_of steps) i d.request
 
 module _ {B : Type 0} (G : Group B) (t : Tally B) (st : State B) (len : ℕ) (steps : List (Step B)) where
   pub none_yet : Ready G t st len → PerformedTo G t st len 0 steps st
@@ -51,5 +45,5 @@ module _ {B : Type 0} (G : Group B) (t : Tally B) (st : State B) (len : ℕ) (st
             ∙ ap (λ x. replies_of (take i steps) ++ (reply_to n P.now x ∷ replies n (tally_on n P.now x) (requests_of (drop (i + 1) steps)))) e
             ∙ sym (ap (λ xs. replies_of (take i steps) ++ replies n P.now (requests_of xs)) (drop_more steps i d l))
             ∙ P.rest
-            ∙ ap (replies n t) (sym (requests_stay steps i y d l e));
+            ∙ ap (replies n t) (sym (map-set_same (λ step. step.request) steps i y d e));
       }

@@ -1,24 +1,23 @@
 // Requests made on a book.
-ghost use Rattle.std.specs.Prelude.{◌≡◌, ℕ, length};
-ghost use Rattle.state.specs.States.{state};
-ghost use Rattle.transcript.specs.Performs.{done_reply, Performs, PerformsAll};
+ghost use Rattle.std.specs.Prelude.{◌≡◌, ℕ, length, Ok};
+ghost use Rattle.book.specs.Books.{state_of};
+ghost use Rattle.transcript.specs.Performs.{replied, done_reply, Performs, PerformsAll};
 ghost use Rattle.transcript.specs.declared.requests.Request.TheVariants.{Read, Audit};
 
 use crate::replaces::replace;
-use crate::requests::{Request, Response, Step};
+use crate::requests::{Request, Step};
 use book::Book;
 use faults::Fault;
 use kinds::BlockKind;
+use orders::Reply;
 use store::{ReadStore, WriteStore};
 
-// The reply to a write, a loss or a replacement.
-fn done<B>(answer: Result<(), Fault>) -> Response<B>
-    ensures { result ≡ done_reply answer }
+// The reply to a write, a loss or a replacement that is not refused.
+fn done<B>(answer: Result<(), Fault>) -> Result<Reply<B>, Fault>
+    ensures { replied result ≡ done_reply answer }
 {
-    match answer {
-        Ok(()) => Response::Done,
-        Err(fault) => Response::Refused(fault),
-    }
+    answer?;
+    Ok(Reply::Done)
 }
 
 fn read_pair<S: WriteStore>(
@@ -26,40 +25,49 @@ fn read_pair<S: WriteStore>(
     a: u8,
     b: u8,
     work: &mut [S::Block],
-) -> Response<S::Block>
-    ensures { Performs S.Block.group (state (S.means book.now.store) book.now.filling) (length work.old) (Read a b) result (state (S.means book.now.store) book.now.filling) }
+) -> Result<Reply<S::Block>, Fault>
+    ensures { Performs S.Block.group (state_of S.means book.now) (length work.old) (Ok (Read a b)) (replied result) (state_of S.means book.now) }
 {
     let mut block = S::Block::zero();
-    match book.read(a, b, work, &mut block) {
-        Ok(()) => Response::Block(block),
-        Err(fault) => Response::Refused(fault),
-    }
+    book.read(a, b, work, &mut block)?;
+    Ok(Reply::Block(block))
 }
 
-fn audit_all<S: WriteStore>(book: &Book<S>) -> Response<S::Block>
-    ensures { (len : ℕ) → Performs S.Block.group (state (S.means book.now.store) book.now.filling) len Audit result (state (S.means book.now.store) book.now.filling) }
+fn audit_all<S: WriteStore>(book: &Book<S>) -> Result<Reply<S::Block>, Fault>
+    ensures { (len : ℕ) → Performs S.Block.group (state_of S.means book.now) len (Ok Audit) (replied result) (state_of S.means book.now) }
 {
-    match book.audit() {
-        Ok(verdict) => Response::Found(verdict),
-        Err(fault) => Response::Refused(fault),
-    }
+    let verdict = book.audit()?;
+    Ok(Reply::Found(verdict))
 }
 
-// Makes one request.
+// Makes one request, where the record held one.
 fn perform<S: WriteStore>(
     book: &mut Book<S>,
-    request: Request<S::Block>,
+    request: Result<Request<S::Block>, Fault>,
     work: &mut [S::Block],
-) -> Response<S::Block>
-    ensures { Performs S.Block.group (state (S.means book.old.store) book.old.filling) (length work.old) request result (state (S.means book.new.store) book.new.filling) }
+) -> Result<Reply<S::Block>, Fault>
+    ensures { Performs S.Block.group (state_of S.means book.old) (length work.old) request (replied result) (state_of S.means book.new) }
 {
-    match request {
+    match request? {
         Request::Read { a, b } => read_pair(book, a, b, work),
         Request::Write { a, b, block } => done(book.write(a, b, block, work)),
         Request::Lose { station } => done(book.lose(station)),
         Request::Replace { station } => done(replace(book, station, work)),
         Request::Audit => audit_all(book),
-        Request::Unread(fault) => Response::Refused(fault),
+    }
+}
+
+// The reply to a request, whether it is refused or not.
+fn reply_to<S: WriteStore>(
+    book: &mut Book<S>,
+    request: Result<Request<S::Block>, Fault>,
+    work: &mut [S::Block],
+) -> Reply<S::Block>
+    ensures { Performs S.Block.group (state_of S.means book.old) (length work.old) request result (state_of S.means book.new) }
+{
+    match perform(book, request, work) {
+        Ok(reply) => reply,
+        Err(fault) => Reply::Refused(fault),
     }
 }
 
@@ -69,10 +77,9 @@ pub(crate) fn perform_all<S: WriteStore>(
     steps: &mut [Step<S::Block>],
     work: &mut [S::Block],
 )
-    ensures { PerformsAll S.Block.group (state (S.means book.old.store) book.old.filling) (length work.old) steps.old steps.new }
+    ensures { PerformsAll S.Block.group (state_of S.means book.old) (length work.old) steps.old steps.new }
 {
-    for i in 0..steps.len() {
-        let reply = perform(book, steps[i].request, work);
-        steps[i].reply = reply;
+    for step in steps.iter_mut() {
+        step.reply = reply_to(book, step.request, work);
     }
 }

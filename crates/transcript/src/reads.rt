@@ -1,71 +1,52 @@
 // The requests that the bytes of an input hold.
-ghost use Rattle.std.specs.Prelude.{◌≡◌, ◌+◌, ◌<◌, ◌≤◌, length, IfOk};
-ghost use Rattle.image.specs.Images.{block_at};
-ghost use Rattle.orders.specs.Records.{asked, record_answer};
+ghost use Rattle.std.specs.Prelude.{◌≡◌, IfOk, Ok};
+ghost use Rattle.orders.specs.Records.{read_as};
+ghost use Rattle.std.specs.Iterator.{YieldsFirst, item_count};
+ghost use Rattle.transcript.specs.Reads.{requests_left};
 ghost use Rattle.transcript.specs.Replies.{requests_of};
-ghost use Rattle.transcript.specs.Sessions.{request_of_lem, request_as, next_at, session_requests};
+ghost use Rattle.transcript.specs.Sessions.{request_as, session_requests};
 
-use crate::requests::{Request, Response, Step};
+use crate::requests::{Request, Step};
+use faults::Fault;
 use kinds::Block;
-use orders::{Order, Reading, read_record};
+use orders::{Record, Reply, read_record};
 use std::alloc::{AllocError, Global};
 
-// The first 64 bytes, and zeros after a shorter slice.
-fn block_of(bytes: &[u8]) -> Block
-    ensures { result ≡ block_at bytes.now 0 }
+fn request_of(read: Record<'_>) -> Result<Request<Block>, Fault>
+    ensures { result ≡ request_as (read_as (Ok read.entry)) }
 {
-    let mut block = [0; 64];
-    for i in 0..64 {
-        if i < bytes.len() {
-            block[i] = bytes[i];
+    Ok(Request::from(read.order?))
+}
+
+// The requests of the records of an input from an offset on, with a fault for each record that is no order. After one that
+// is cut short or of another version nothing more is read.
+#[derive(Drop)]
+struct Requests<'a> {
+    input: &'a [u8],
+    at: usize,
+}
+
+impl Iterator for Requests<'_> {
+    type Item = Result<Request<Block>, Fault>;
+
+    ghost next_gives = { YieldsFirst requests_left };
+
+    ghost remaining = { item_count requests_left };
+
+    fn next(&mut self) -> Option<Result<Request<Block>, Fault>> {
+        if self.at >= self.input.len() {
+            return None;
         }
-    }
-    Block::from_bytes(block)
-}
-
-fn request_of(order: Order) -> Request<Block>
-    ensures { result ≡ request_of_lem (asked order.entry) }
-{
-    match order {
-        Order::Read { a, b } => Request::Read { a, b },
-        Order::Write { a, b, bytes } => Request::Write {
-            a,
-            b,
-            block: block_of(bytes),
-        },
-        Order::Lose { station } => Request::Lose { station },
-        Order::Replace { station } => Request::Replace { station },
-        Order::Audit => Request::Audit,
-    }
-}
-
-// A record's request, and where the next record begins.
-#[derive(Clone, Copy)]
-struct Found {
-    request: Request<Block>,
-    next: usize,
-}
-
-// Reads the record at an offset. After one that is cut short or of another version nothing more is read.
-fn read_request(input: &[u8], at: usize) -> Found
-    requires { at < length input.now }
-    ensures request { result.request ≡ request_as (record_answer input.now at) }
-    ensures next { result.next ≡ next_at input.now at (record_answer input.now at) }
-    ensures forward { at < result.next }
-{
-    match read_record(input, at) {
-        Reading::Taken { order, len } => Found {
-            request: request_of(order),
-            next: at + len,
-        },
-        Reading::Passed { fault, len } => Found {
-            request: Request::Unread(fault),
-            next: at + len,
-        },
-        Reading::Ended(fault) => Found {
-            request: Request::Unread(fault),
-            next: input.len(),
-        },
+        match read_record(self.input, self.at) {
+            Ok(record) => {
+                self.at += record.len;
+                Some(request_of(record))
+            }
+            Err(fault) => {
+                self.at = self.input.len();
+                Some(Err(fault))
+            }
+        }
     }
 }
 
@@ -74,14 +55,11 @@ pub(crate) fn read_requests(heap: Global, input: &[u8]) -> Result<Vec<Step<Block
     ensures { IfOk result (λ steps. requests_of steps.items ≡ session_requests input.now) }
 {
     let mut steps = Vec::new(heap);
-    let mut at = 1;
-    while at < input.len() {
-        let found = read_request(input, at);
+    for request in (Requests { input, at: 1 }) {
         steps.push(Step {
-            request: found.request,
-            reply: Response::Done,
+            request,
+            reply: Reply::Done,
         })?;
-        at = found.next;
     }
     Ok(steps)
 }

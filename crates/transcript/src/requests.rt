@@ -1,33 +1,56 @@
 // Orders as values, with a place for the reply to each.
-use audit::Verdict;
-use faults::Fault;
+ghost use Rattle.image.specs.Images.{block_at};
+ghost use Rattle.std.specs.Prelude.{◌≡◌};
 
-// What a record asks for, with its block; or the fault of a record that is no order.
-#[derive(Clone, Copy)]
+use faults::Fault;
+use kinds::Block;
+use orders::{Order, Reply};
+
+// What a record asks for, with its block.
+#[derive(Clone, Copy, Debug, PartialEq, Eq)]
 pub enum Request<B> {
     Read { a: u8, b: u8 },
     Write { a: u8, b: u8, block: B },
     Lose { station: u8 },
     Replace { station: u8 },
     Audit,
-    Unread(Fault),
 }
 
-// What is answered to a request, with blocks of any kind.
-#[derive(Clone, Copy)]
-pub enum Response<B> {
-    // the block that was read
-    Block(B),
-    // a write, a loss or a replacement is done
-    Done,
-    // what an audit found
-    Found(Verdict),
-    Refused(Fault),
-}
-
-// A request and the reply to it.
-#[derive(Clone, Copy)]
+// A request, or the fault of a record that is no order; and the reply to it. A reply stands there only when the request was
+// made: what stands there before is not looked at.
+#[derive(Clone, Copy, Debug, PartialEq, Eq)]
 pub struct Step<B> {
-    pub request: Request<B>,
-    pub reply: Response<B>,
+    pub request: Result<Request<B>, Fault>,
+    pub reply: Reply<B>,
+}
+
+// The first 64 bytes, and zeros after a shorter slice.
+fn block_of(bytes: &[u8]) -> Block
+    ensures { result ≡ block_at bytes.now 0 }
+{
+    let mut block = [0; 64];
+    let len = bytes.len().min(64);
+    block[..len].copy_from_slice(&bytes[..len]);
+    Block::from(block)
+}
+
+impl From<Order<'_>> for Request<Block> {
+    ghost use Rattle.orders.specs.Records.{asked};
+    ghost use Rattle.transcript.specs.Sessions.{request_of};
+
+    ghost from_gives = { λ order request. request ≡ request_of (asked order) };
+
+    fn from(order: Order<'_>) -> Request<Block> {
+        match order {
+            Order::Read { a, b } => Request::Read { a, b },
+            Order::Write { a, b, bytes } => Request::Write {
+                a,
+                b,
+                block: block_of(bytes),
+            },
+            Order::Lose { station } => Request::Lose { station },
+            Order::Replace { station } => Request::Replace { station },
+            Order::Audit => Request::Audit,
+        }
+    }
 }

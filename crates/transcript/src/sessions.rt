@@ -1,6 +1,6 @@
 // Whole sessions: from the bytes of an input to the lines that answer them.
 ghost use Rattle.std.specs.Prelude.{◌≡◌, ◌*◌, ◌≤◌, true, length, is_ok, IfOk};
-ghost use Rattle.state.specs.Opens.{AllIn};
+ghost use Rattle.store.specs.Meaning.{AllIn};
 ghost use Rattle.kinds.specs.Bytes.{byte_group};
 ghost use Rattle.serve.specs.Tally.{at_start};
 ghost use Rattle.store.specs.Tables.{table_check};
@@ -84,7 +84,7 @@ pub fn transcribe(heap: Global, input: &[u8]) -> Result<Vec<u8>, AllocError>
     let [number, ..] = input else {
         return refusal_text(heap, Fault::CutShort(0));
     };
-    match Size::new(*number) {
+    match Size::try_from(*number) {
         Ok(size) => answer_records(heap, size, input),
         Err(fault) => refusal_text(heap, fault),
     }

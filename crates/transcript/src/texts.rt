@@ -3,38 +3,21 @@ ghost use Rattle.std.specs.Prelude.{◌≡◌, ◌++◌, IfOk, OnOk};
 ghost use Rattle.orders.specs.Lines.{line};
 ghost use Rattle.orders.specs.declared.lines.Reply.TheVariants.{Refused};
 ghost use Rattle.transcript.specs.Replies.{replies_of};
-ghost use Rattle.transcript.specs.Sessions.{lines, reply_of_lem};
+ghost use Rattle.transcript.specs.Sessions.{lines};
 
-use crate::requests::{Response, Step};
+use crate::requests::Step;
 use faults::Fault;
 use kinds::Block;
-use orders::{Reply, lay_line};
+use orders::{LONGEST, Reply, lay_line};
 use std::alloc::{AllocError, Global};
 
-// The response as the reply of a line.
-fn reply_of(response: Response<Block>) -> Reply
-    ensures { result ≡ reply_of_lem response }
-{
-    match response {
-        Response::Block(block) => Reply::Block(block),
-        Response::Done => Reply::Done,
-        Response::Found(verdict) => Reply::Found(verdict),
-        Response::Refused(fault) => Reply::Refused(fault),
-    }
-}
-
 // Adds the line of a reply to a text.
-fn append_line(text: &mut Vec<u8>, reply: &Reply) -> Result<(), AllocError>
+fn append_line(text: &mut Vec<u8>, reply: &Reply<Block>) -> Result<(), AllocError>
     ensures { OnOk result (text.new.items ≡ text.old.items ++ line reply.now) }
 {
-    let mut area = [0; 135];
-    match lay_line(reply, &mut area) {
-        Ok(len) => {
-            text.extend_from_slice(&area[0..len])?;
-            Ok(())
-        }
-        Err(_) => unreachable(),
-    }
+    let mut area = [0; LONGEST];
+    let len = lay_line(reply, &mut area).unwrap();
+    text.extend_from_slice(&area[..len])
 }
 
 // The text of one refusal.
@@ -52,7 +35,7 @@ pub(crate) fn text_of(heap: Global, steps: &[Step<Block>]) -> Result<Vec<u8>, Al
 {
     let mut text = Vec::new(heap);
     for step in steps {
-        append_line(&mut text, &reply_of(step.reply))?;
+        append_line(&mut text, &step.reply)?;
     }
     Ok(text)
 }

@@ -1,5 +1,3 @@
-use Rattle.std.proofs.Common.{ap, ◌∙◌, take_all}
-use Rattle.report.specs.Digits.{hex}
 use Rattle.report.proofs.Hexes.{two_pushes}
 use Rattle.report.proofs.digits.hex_text.Goals as goal
 
@@ -8,6 +6,3 @@ loop-byte-preserved c =
     two_pushes c.args.bytes.now c.loop-byte.byte-index c.loop-byte-test.true c.loop-byte.invariant
     c.in_ok-push.ensures.bytes (c.push.ensures.ascii c.digit.ensures.ascii) c.digit.ensures.digit
     c.in_ok-push-2.ensures.bytes (c.push-in-loop-byte.ensures.ascii c.digit-in-loop-byte.ensures.ascii) c.digit-in-loop-byte.ensures.digit
-
-pub returns : goal.returns
-returns c = c.loop-byte.invariant ∙ ap hex (take_all c.loop-byte.byte-index c.args.bytes.now c.loop-byte-test.false)

@@ -1,6 +1,6 @@
 use Rattle.std.proofs.Common.{◌≡◌, take, string_bytes}
-use Rattle.report.specs.Digits.{hex}
+use Rattle.kinds.specs.Texts.{hex_text}
 use Rattle.report.proofs.digits.hex_text.Given as goal
 
 abbrev pub invariant-loop-byte : goal.invariant-loop-byte
-invariant-loop-byte l = string_bytes l.text ≡ hex (take l.byte-index l.bytes)
+invariant-loop-byte l = string_bytes l.text ≡ hex_text (take l.byte-index l.bytes)

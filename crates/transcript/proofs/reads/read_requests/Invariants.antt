@@ -1,10 +1,9 @@
-use Rattle.std.proofs.Common.{◌-◌, length, vec_items}
+use Rattle.std.proofs.Common.{◌≡◌, ◌++◌, vec_items}
+use Rattle.transcript.specs.Reads.{requests_left}
+use Rattle.transcript.specs.Replies.{requests_of}
 use Rattle.transcript.specs.Sessions.{session_requests}
-use Rattle.transcript.proofs.ReadOn.{ReadTo}
 use Rattle.transcript.proofs.reads.read_requests.Given as goal
 
-abbrev pub invariant-loop-at : goal.invariant-loop-at
-invariant-loop-at l = ReadTo (session_requests l.input) l.input (vec_items l.steps) l.at
-
-abbrev pub decreases-loop-at : goal.decreases-loop-at
-decreases-loop-at l = length l.input - l.at
+-- what was read and what is left are all
+abbrev pub invariant-loop-request : goal.invariant-loop-request
+invariant-loop-request l = requests_of (vec_items l.steps) ++ requests_left l.request-iterator ≡ session_requests l.input

@@ -1,3 +1,4 @@
+use Rattle.std.proofs.lemmas.Result.{IfOk-weaker}
 use Rattle.std.proofs.Common.{◌≡◌, ◌*◌, ◌≤◌, true, false, ltb, length, is_ok, sym, ap, ◌∙◌, ap₂, arith}
 use Rattle.std.proofs.lemmas.Bool.{le-ltb, cond-true}
 use Rattle.code.specs.Sizes.{among, sizes, pairs}
@@ -9,7 +10,6 @@ use Rattle.serve.specs.Tally.{at_start}
 use Rattle.store.specs.Tables.{table_check}
 use Rattle.transcript.specs.Replies.{replies, requests_of}
 use Rattle.transcript.specs.Sessions.{lines, answers, session_requests}
-use Rattle.transcript.proofs.Made.{made_map}
 use Rattle.transcript.proofs.sessions.answer_records.Goals as goal
 
 pub returns : goal.returns
@@ -27,4 +27,4 @@ returns c =
     let asks : requests_of c.as_mut_slice-2.result.now ≡ session_requests input = ap requests_of c.as_mut_slice-2.ensures.value ∙ c.in_ok-steps.ensures in
     let said : lines (replies c.number-n.result (at_start byte_group) (requests_of c.as_mut_slice-2.result.now)) ≡ answers n input =
     ap₂ (λ k qs. lines (replies k (at_start byte_group) qs)) same asks ∙ sym (cond-true (among n sizes) (lines (replies n (at_start byte_group) (session_requests input))) (line (Refused (NotASize n))) listed) in
-    made_map c.tell_on_row.result (λ text h. h ∙ said) (c.tell_on_row.ensures ok long)
+    IfOk-weaker c.tell_on_row.result _ _ (λ text h. h ∙ said) (c.tell_on_row.ensures ok long)

@@ -1,7 +1,7 @@
 use Rattle.std.proofs.Common.{◌≡◌, ◌*◌, ◌≤◌, true, length, is_ok, sym, ap, ◌∙◌, subst, arith}
 use Rattle.std.proofs.lemmas.Bool.{both_ways}
 use Rattle.state.specs.Calls.{Opened}
-use Rattle.state.specs.Opens.{AllIn}
+use Rattle.store.specs.Meaning.{AllIn}
 use Rattle.state.specs.States.{state, size_of}
 use Rattle.state.proofs.Fillings.{did}
 use Rattle.serve.specs.Tally.{at_start}

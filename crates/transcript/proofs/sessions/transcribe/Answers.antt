@@ -1,3 +1,4 @@
+use Rattle.std.proofs.lemmas.Result.{IfOk-weaker}
 use Rattle.std.proofs.Common.{◌≡◌, ℕ, ◌<◌, ◌≤◌, true, false, ltb, List, length, get_or, ap, ◌∙◌, arith, rules}
 use Rattle.std.proofs.lemmas.Bool.{lt-ltb, le-ltb}
 use Rattle.code.specs.Sizes.{among, sizes}
@@ -6,7 +7,6 @@ use Rattle.faults.specs.declared.faults.Fault.TheVariants.{NotASize}
 use Rattle.orders.specs.Lines.{line}
 use Rattle.orders.specs.declared.lines.Reply.TheVariants.{Refused}
 use Rattle.transcript.specs.Sessions.{session_text}
-use Rattle.transcript.proofs.Made.{made_map}
 use Rattle.transcript.proofs.sessions.transcribe.Goals as goal
 
 -- an input whose first byte is no size
@@ -22,4 +22,4 @@ returns-in-Err c =
     let h = c.in-Err.ensures in
     let some : 0 < length input = search rules in
     let q = no_size input (omega arith) some (unlisted (get_or input 0 0) h.1) in
-    made_map c.refusal_text-in-Err.result (λ text e. e ∙ ap (λ f. line (Refused f)) h.0 ∙ q) c.refusal_text-in-Err.ensures
+    IfOk-weaker c.refusal_text-in-Err.result _ _ (λ text e. e ∙ ap (λ f. line (Refused f)) h.0 ∙ q) c.refusal_text-in-Err.ensures
