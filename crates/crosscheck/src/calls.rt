@@ -1,92 +1,13 @@
 // Lists of calls on books over a table and over an image: each answer, and what the store holds in the end.
-use crate::answers::{first_other, is_audit, is_opening};
-use crate::areas::{Area, Under};
+use crate::answers::first_other;
+use crate::areas::Area;
 use crate::counts::Counts;
 use crate::elimination::{Solution, place_of};
 use crate::model::Model;
-use crate::scripts::{Bench, Script};
+use crate::scripts::{Bench, Outcome, Script};
 use crate::stops::{Stop, differs};
-use audit::Verdict;
-use book::Book;
-use faults::Fault;
-use image::{Image, check_image};
 use kinds::Block;
-use serve::{Rack, Turn, carry_on, serve};
-use store::{ReadStore, Table, WriteStore, check_table};
-
-// What a book answered to its opens, before the calls and after them, and to an audit.
-#[derive(Clone, Copy)]
-struct Outcome {
-    opened: Result<(), Fault>,
-    reopened: Result<(), Fault>,
-    audit: Result<Verdict, Fault>,
-}
-
-// Makes the calls on a book over a store, in two parts, and opens it again if asked.
-fn serve_all<S: WriteStore + Drop>(
-    store: S,
-    turns: &mut [Turn<S::Block>],
-    work: &mut [S::Block],
-    rack: &mut Rack,
-    reopen: bool,
-) -> Outcome {
-    let mut book = Book::make(store);
-    let half = turns.len() / 2;
-    let (first, rest) = turns.split_at_mut(half);
-    let opened = serve(&mut book, first, work, rack);
-    carry_on(&mut book, rest, work, rack);
-    let reopened = if reopen { book.open() } else { Ok(()) };
-    let audit = book.audit();
-    Outcome {
-        opened,
-        reopened,
-        audit,
-    }
-}
-
-// The same over a row, as a table of n stations.
-fn over_table(
-    n: u8,
-    row: &mut [Block],
-    script: &mut Script,
-    rack: &mut Rack,
-) -> Result<Outcome, Stop> {
-    if check_table(n, row).is_err() {
-        return Err(differs("table", n, 0, 0));
-    }
-    let table = Table::make(n, row);
-    let turns = script.turns.as_mut_slice();
-    let work = script.work.as_mut_slice();
-    Ok(serve_all(table, turns, work, rack, script.reopen))
-}
-
-// The same over bytes, as an image.
-fn over_image(
-    n: u8,
-    bytes: &mut [u8],
-    script: &mut Script,
-    rack: &mut Rack,
-) -> Result<Outcome, Stop> {
-    if check_image(bytes).is_err() {
-        return Err(differs("image", n, 0, 0));
-    }
-    let image = Image::make(bytes);
-    let turns = script.turns.as_mut_slice();
-    let work = script.work.as_mut_slice();
-    Ok(serve_all(image, turns, work, rack, script.reopen))
-}
-
-fn over_area(
-    n: u8,
-    area: &mut Area,
-    script: &mut Script,
-    rack: &mut Rack,
-) -> Result<Outcome, Stop> {
-    match area {
-        Area::Row(row) => over_table(n, row.as_mut_slice(), script, rack),
-        Area::Bytes(bytes) => over_image(n, bytes.as_mut_slice(), script, rack),
-    }
-}
+use serve::Rack;
 
 // The opens, the answers and the audit of a list.
 fn compare_answers(
@@ -96,23 +17,23 @@ fn compare_answers(
     outcome: &Outcome,
 ) -> Result<(), Stop> {
     let n = model.n();
-    if !is_opening(&outcome.opened, None) {
+    if outcome.opened != Ok(()) {
         return Err(differs("first open", n, list, 0));
     }
     if let Some(turn) = first_other(script.turns.as_slice(), script.answers.as_slice()) {
         return Err(differs("answer", n, list, turn));
     }
-    if !is_opening(&outcome.reopened, model.out_from(0)) {
+    if outcome.reopened != model.open() {
         return Err(differs("second open", n, list, 0));
     }
-    if !is_audit(&outcome.audit, model.first_absent()) {
+    if outcome.audit != model.audit() {
         return Err(differs("audit", n, list, 0));
     }
     Ok(())
 }
 
 // The block that a pair must hold: between standing stations what the last writes ask for.
-fn wanted_block(model: &Model, area: &Area, a: u8, b: u8, wanted: &[Block]) -> Option<Block> {
+fn wanted_block<A: Area>(model: &Model, area: &A, a: u8, b: u8, wanted: &[Block]) -> Option<Block> {
     if model.is_out(a) || model.is_out(b) {
         return area.lost_block();
     }
@@ -123,10 +44,10 @@ fn wanted_block(model: &Model, area: &Area, a: u8, b: u8, wanted: &[Block]) -> O
 }
 
 // What the store holds after a list. Answers how many blocks were compared.
-fn compare_stored(
+fn compare_stored<A: Area>(
     list: usize,
     model: &Model,
-    area: &Area,
+    area: &A,
     wanted: &[Block],
 ) -> Result<usize, Stop> {
     let n = model.n();
@@ -146,9 +67,8 @@ fn compare_stored(
 }
 
 // Makes a list of calls on the model and on a book over a new store, and compares them.
-pub fn compare_list(
+pub fn compare_list<A: Area + Drop>(
     bench: &mut Bench,
-    under: Under,
     n: u8,
     rack: &mut Rack,
     counts: &mut Counts,
@@ -157,8 +77,8 @@ pub fn compare_list(
     let list = counts.lists;
     let mut model = Model::new(heap, n)?;
     let mut script = bench.write_script(&mut model)?;
-    let mut area = Area::new(heap, under, n)?;
-    let outcome = over_area(n, &mut area, &mut script, rack)?;
+    let mut area = A::new(heap, n)?;
+    let outcome = area.serve(n, &mut script, rack)?;
     compare_answers(list, &model, &script, &outcome)?;
     if !area.has_marks(&model) {
         return Err(differs("marks", n, list, 0));

@@ -3,119 +3,131 @@ use crate::model::Model;
 use crate::random::Random;
 use crate::tickets::Tickets;
 use kinds::Block;
-use serve::Call;
+use serve::{Call, Sort};
 
-// A station, now and then one that is not there.
-fn any_station(n: u8, random: &mut Random) -> u8 {
-    if random.once_in(16) {
-        return n.saturating_add(random.byte() % 4);
-    }
-    if random.once_in(64) {
-        return random.byte();
-    }
-    random.byte() % n.max(1)
+// What a call is chosen by.
+#[derive(Drop)]
+pub struct Choice<'a> {
+    pub model: &'a Model,
+    pub tickets: &'a Tickets,
+    pub random: &'a mut Random,
 }
 
-// A data station, but sometimes any.
-fn data_station(n: u8, random: &mut Random) -> u8 {
-    if random.once_in(8) {
-        return any_station(n, random);
-    }
-    random.byte() % n.saturating_sub(2).max(1)
-}
-
-// A work area that suffices, or one that is too short.
-fn any_area(model: &Model, random: &mut Random) -> usize {
-    let full = model.full_area();
-    match random.below(24) {
-        0 => full.saturating_sub(1),
-        1 => random.below(full),
-        2 => usize::MAX,
-        _ => full,
-    }
-}
-
-// The third loss is rare, since no call mends it.
-fn station_to_lose(model: &Model, random: &mut Random) -> u8 {
-    let any = any_station(model.n(), random);
-    if model.count_absent() < 2 || random.once_in(60) {
-        return any;
-    }
-    model.first_absent().unwrap_or(any)
-}
-
-fn station_to_fit(model: &Model, random: &mut Random) -> u8 {
-    let any = any_station(model.n(), random);
-    if random.once_in(8) {
-        return any;
-    }
-    model.out_from(any).unwrap_or(any)
-}
-
-// The station being filled, or one with a ticket of this sort, or any.
-fn station_of_ticket(model: &Model, tickets: &Tickets, full: bool, random: &mut Random) -> u8 {
-    let any = any_station(model.n(), random);
-    match random.below(8) {
-        0 => any,
-        1 => tickets.find_from(any, full).unwrap_or(any),
-        _ => model.filled().unwrap_or(any),
-    }
-}
-
-fn choose_write(model: &Model, random: &mut Random) -> Call<Block> {
-    Call::Write {
-        a: data_station(model.n(), random),
-        b: data_station(model.n(), random),
-        block: random.block(),
-        area: any_area(model, random),
-    }
-}
-
-fn choose_read(model: &Model, random: &mut Random) -> Call<Block> {
-    Call::Read {
-        a: data_station(model.n(), random),
-        b: data_station(model.n(), random),
-        area: any_area(model, random),
-    }
-}
-
-fn choose_fill(model: &Model, tickets: &Tickets, random: &mut Random) -> Call<Block> {
-    Call::Fill {
-        station: station_of_ticket(model, tickets, false, random),
-        area: any_area(model, random),
-    }
-}
-
-fn choose_abandon(model: &Model, tickets: &Tickets, random: &mut Random) -> Call<Block> {
-    let full = random.once_in(2);
-    Call::Abandon {
-        station: station_of_ticket(model, tickets, full, random),
-        full,
-    }
-}
-
-// Any call; where it is to be calm, no station is lost.
-pub fn choose_call(
-    model: &Model,
-    tickets: &Tickets,
-    calm: bool,
-    random: &mut Random,
-) -> Call<Block> {
-    match random.below(64) {
-        0..=3 if !calm => Call::Lose {
-            station: station_to_lose(model, random),
-        },
-        4..=7 => Call::Fit {
-            station: station_to_fit(model, random),
-        },
-        8 => choose_abandon(model, tickets, random),
-        9..=12 if model.is_full() || random.once_in(8) => Call::Finish {
-            station: station_of_ticket(model, tickets, true, random),
-        },
-        13..=39 if model.filled().is_some() || random.once_in(8) => {
-            choose_fill(model, tickets, random)
+impl Choice<'_> {
+    // A station, now and then one that is not there.
+    fn any_station(&mut self) -> u8 {
+        let n = self.model.n();
+        if self.random.once_in(16) {
+            return n.saturating_add(self.random.byte() % 4);
         }
-        40..=50 => choose_read(model, random),
-        _ => choose_write(model, random),
+        if self.random.once_in(64) {
+            return self.random.byte();
+        }
+        self.random.byte() % n.max(1)
+    }
+
+    // A data station, but sometimes any.
+    fn data_station(&mut self) -> u8 {
+        if self.random.once_in(8) {
+            return self.any_station();
+        }
+        self.random.byte() % self.model.n().saturating_sub(2).max(1)
+    }
+
+    // A work area that suffices, or one that is too short.
+    fn any_area(&mut self) -> usize {
+        let full = self.model.full_area();
+        match self.random.below(24) {
+            0 => full.saturating_sub(1),
+            1 => self.random.below(full),
+            2 => usize::MAX,
+            _ => full,
+        }
+    }
+
+    // The third loss is rare, since no call mends it.
+    fn station_to_lose(&mut self) -> u8 {
+        let any = self.any_station();
+        if self.model.count_absent() < 2 || self.random.once_in(60) {
+            return any;
+        }
+        self.model.first_absent().unwrap_or(any)
+    }
+
+    fn station_to_fit(&mut self) -> u8 {
+        let any = self.any_station();
+        if self.random.once_in(8) {
+            return any;
+        }
+        self.model.out_from(any).unwrap_or(any)
+    }
+
+    fn any_sort(&mut self) -> Sort {
+        if self.random.once_in(2) {
+            Sort::Full
+        } else {
+            Sort::Open
+        }
+    }
+
+    // The station being filled, or one with a ticket of this sort, or any.
+    fn station_of_ticket(&mut self, sort: Sort) -> u8 {
+        let any = self.any_station();
+        match self.random.below(8) {
+            0 => any,
+            1 => self.tickets.of(sort).find_from(any).unwrap_or(any),
+            _ => self.model.filled().unwrap_or(any),
+        }
+    }
+
+    fn write(&mut self) -> Call<Block> {
+        Call::Write {
+            a: self.data_station(),
+            b: self.data_station(),
+            block: self.random.block(),
+            area: self.any_area(),
+        }
+    }
+
+    fn read(&mut self) -> Call<Block> {
+        Call::Read {
+            a: self.data_station(),
+            b: self.data_station(),
+            area: self.any_area(),
+        }
+    }
+
+    fn fill(&mut self) -> Call<Block> {
+        Call::Fill {
+            station: self.station_of_ticket(Sort::Open),
+            area: self.any_area(),
+        }
+    }
+
+    fn abandon(&mut self) -> Call<Block> {
+        let sort = self.any_sort();
+        Call::Abandon {
+            station: self.station_of_ticket(sort),
+            sort,
+        }
+    }
+
+    // Any call; where it is to be calm, no station is lost.
+    pub fn call(&mut self, calm: bool) -> Call<Block> {
+        match self.random.below(64) {
+            0..=3 if !calm => Call::Lose {
+                station: self.station_to_lose(),
+            },
+            4..=7 => Call::Fit {
+                station: self.station_to_fit(),
+            },
+            8 => self.abandon(),
+            9..=12 if self.model.is_full() || self.random.once_in(8) => Call::Finish {
+                station: self.station_of_ticket(Sort::Full),
+            },
+            13..=39 if self.model.filled().is_some() || self.random.once_in(8) => self.fill(),
+            40..=50 => self.read(),
+            _ => self.write(),
+        }
     }
 }

@@ -4,7 +4,7 @@ use faults::Fault;
 use kinds::Block;
 use serve::Answer;
 
-#[derive(Drop)]
+#[derive(Default, Drop)]
 pub struct Counts {
     pub lists: usize,
     pub calls: usize,
@@ -23,24 +23,9 @@ fn count_up(count: &mut usize) {
 }
 
 impl Counts {
-    pub fn new() -> Self {
-        Counts {
-            lists: 0,
-            calls: 0,
-            stored: 0,
-            audits: 0,
-            given: 0,
-            accepted: 0,
-            untouched: 0,
-            not_made: 0,
-            refused: [0; 20],
-        }
-    }
-
     fn count_refusal(&mut self, number: u8) {
-        let at = usize::from(number);
-        if at < 20 {
-            self.refused[at] = self.refused[at].saturating_add(1);
+        if let Some(count) = self.refused.get_mut(usize::from(number)) {
+            count_up(count);
         }
     }
 

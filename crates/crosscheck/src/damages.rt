@@ -5,74 +5,90 @@ use crate::stops::{Stop, differs};
 use std::alloc::{AllocError, Global};
 use transcript::transcribe;
 
-// Orders of five stations: a letter, and two stations where it has them. X is no letter.
-const ORDERS: [(u8, u8, u8); 24] = [
-    (b'C', 0, 0),
-    (b'W', 0, 0),
-    (b'W', 2, 1),
-    (b'L', 0, 0),
-    (b'R', 0, 0),
-    (b'R', 7, 0),
-    (b'L', 0, 0),
-    (b'W', 0, 1),
-    (b'P', 0, 0),
-    (b'C', 0, 0),
-    (b'X', 1, 0),
-    (b'W', 3, 0),
-    (b'L', 4, 0),
-    (b'L', 1, 0),
-    (b'R', 1, 2),
-    (b'C', 0, 0),
-    (b'L', 2, 0),
-    (b'R', 0, 0),
-    (b'R', 1, 0),
-    (b'P', 1, 0),
-    (b'W', 0, 0),
-    (b'P', 3, 0),
-    (b'R', 4, 4),
-    (b'P', 9, 0),
-];
+// An order, by its stations. The 64 bytes of a write are all the same.
+#[derive(Clone, Copy)]
+enum Order {
+    Read(u8, u8),
+    Write(u8, u8),
+    Lose(u8),
+    Replace(u8),
+    Audit,
+    // by a letter that is none
+    Unknown(u8),
+}
 
-// Adds the record of an order.
-fn add_order(input: &mut Vec<u8>, letter: u8, a: u8, b: u8) -> Result<(), AllocError> {
-    match letter {
-        b'R' => input.extend_from_slice(&[1, 0, 3, letter, a, b]),
-        b'W' => {
-            input.extend_from_slice(&[1, 0, 67, letter, a, b])?;
-            input.extend_from_slice(&[a.wrapping_mul(16) ^ b ^ 0x2A; 64])
+impl Order {
+    // A random one of n stations, with a station that is not there now and then.
+    fn random(n: u8, random: &mut Random) -> Self {
+        let choice = random.below(14);
+        let a = random.byte() % n.saturating_add(1).max(1);
+        let b = random.byte() % n.max(1);
+        match choice {
+            0..=3 => Order::Read(a, b),
+            4..=8 => Order::Write(a, b),
+            9 => Order::Lose(a),
+            10 | 11 => Order::Replace(a),
+            12 => Order::Audit,
+            _ => Order::Unknown(a),
         }
-        b'C' => input.extend_from_slice(&[1, 0, 1, letter]),
-        _ => input.extend_from_slice(&[1, 0, 2, letter, a]),
+    }
+
+    // Adds its record.
+    fn push(self, input: &mut Vec<u8>) -> Result<(), AllocError> {
+        match self {
+            Order::Read(a, b) => input.extend_from_slice(&[1, 0, 3, b'R', a, b]),
+            Order::Write(a, b) => {
+                input.extend_from_slice(&[1, 0, 67, b'W', a, b])?;
+                input.extend_from_slice(&[a.wrapping_mul(16) ^ b ^ 0x2A; 64])
+            }
+            Order::Lose(a) => input.extend_from_slice(&[1, 0, 2, b'L', a]),
+            Order::Replace(a) => input.extend_from_slice(&[1, 0, 2, b'P', a]),
+            Order::Audit => input.extend_from_slice(&[1, 0, 1, b'C']),
+            Order::Unknown(a) => input.extend_from_slice(&[1, 0, 2, b'X', a]),
+        }
     }
 }
 
+// Orders of five stations.
+const ORDERS: [Order; 24] = [
+    Order::Audit,
+    Order::Write(0, 0),
+    Order::Write(2, 1),
+    Order::Lose(0),
+    Order::Read(0, 0),
+    Order::Read(7, 0),
+    Order::Lose(0),
+    Order::Write(0, 1),
+    Order::Replace(0),
+    Order::Audit,
+    Order::Unknown(1),
+    Order::Write(3, 0),
+    Order::Lose(4),
+    Order::Lose(1),
+    Order::Read(1, 2),
+    Order::Audit,
+    Order::Lose(2),
+    Order::Read(0, 0),
+    Order::Read(1, 0),
+    Order::Replace(1),
+    Order::Write(0, 0),
+    Order::Replace(3),
+    Order::Read(4, 4),
+    Order::Replace(9),
+];
+
 fn sample(heap: Global) -> Result<Vec<u8>, AllocError> {
     let mut input = Vec::from_slice(heap, &[5])?;
-    for (letter, a, b) in ORDERS {
-        add_order(&mut input, letter, a, b)?;
+    for order in ORDERS {
+        order.push(&mut input)?;
     }
     Ok(input)
 }
 
-fn random_letter(random: &mut Random) -> u8 {
-    match random.below(14) {
-        0..=3 => b'R',
-        4..=8 => b'W',
-        9 => b'L',
-        10 | 11 => b'P',
-        12 => b'C',
-        _ => b'X',
-    }
-}
-
-// Random orders, with a station that is not there now and then.
 fn random_input(heap: Global, n: u8, random: &mut Random) -> Result<Vec<u8>, AllocError> {
     let mut input = Vec::from_slice(heap, &[n])?;
     for _ in 0..200 {
-        let letter = random_letter(random);
-        let a = random.byte() % n.saturating_add(1).max(1);
-        let b = random.byte() % n.max(1);
-        add_order(&mut input, letter, a, b)?;
+        Order::random(n, random).push(&mut input)?;
     }
     Ok(input)
 }
@@ -81,7 +97,7 @@ fn random_input(heap: Global, n: u8, random: &mut Random) -> Result<Vec<u8>, All
 fn compare_input(heap: Global, input: &[u8], what: &'static str, at: usize) -> Result<(), Stop> {
     let wanted = model_lines(heap, input)?;
     let lines = transcribe(heap, input)?;
-    if wanted.as_slice() == lines.as_slice() {
+    if wanted.as_str().as_bytes() == lines.as_slice() {
         Ok(())
     } else {
         let n = input.first().copied().unwrap_or(0);
@@ -100,23 +116,22 @@ fn compare_cut(heap: Global, input: &[u8]) -> Result<usize, Stop> {
 
 // Every input that differs from a sample in one bit. Answers how many.
 fn compare_flipped(heap: Global, input: &mut [u8]) -> Result<usize, Stop> {
-    let mut flipped: usize = 0;
+    // An index, since the whole input is read while a byte of it is changed.
     for k in 0..input.len() {
         for bit in 0..8u8 {
             input[k] ^= 1 << bit;
             compare_input(heap, input, "flipped session", k)?;
             input[k] ^= 1 << bit;
-            flipped = flipped.saturating_add(1);
         }
     }
-    Ok(flipped)
+    Ok(input.len().saturating_mul(8))
 }
 
 // The longest input that is answered, and one byte more.
 fn compare_long(heap: Global) -> Result<(), Stop> {
     let mut input = Vec::from_slice(heap, &[7])?;
     for _ in 0..4096 {
-        add_order(&mut input, b'C', 0, 0)?;
+        Order::Audit.push(&mut input)?;
     }
     compare_input(heap, input.as_slice(), "long session", 0)?;
     input.truncate(16_384);
@@ -147,6 +162,7 @@ pub fn compare_sessions(heap: Global, sizes: &[u8]) -> Result<Compared, Stop> {
 // Random inputs of each size. Answers how many.
 fn compare_random(heap: Global, sizes: &[u8]) -> Result<usize, Stop> {
     let mut random = Random::new(4);
+    // Counted by hand: the count tells the inputs apart.
     let mut inputs: usize = 0;
     for _ in 0..20 {
         for n in sizes {

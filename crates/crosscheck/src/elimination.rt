@@ -2,31 +2,30 @@
 use crate::blocks::add_bytes;
 use kinds::Block;
 use std::alloc::{AllocError, Global};
+use std::ops::Range;
 
 // A sum of pairs: for each place, whether its pair is a part of it.
-#[derive(Clone, Copy)]
+#[derive(Clone, Copy, Default)]
 pub struct Sum {
     words: [u64; 8],
 }
 
 impl Sum {
-    fn none() -> Self {
-        Sum { words: [0; 8] }
-    }
-
     pub fn has(&self, p: usize) -> bool {
-        p < 512 && (self.words[p / 64] >> (p % 64)) & 1 == 1
+        self.words
+            .get(p / 64)
+            .is_some_and(|word| (*word >> (p % 64)) & 1 == 1)
     }
 
     fn flip(&mut self, p: usize) {
-        if p < 512 {
-            self.words[p / 64] ^= 1 << (p % 64);
+        if let Some(word) = self.words.get_mut(p / 64) {
+            *word ^= 1 << (p % 64);
         }
     }
 
-    fn add(&mut self, other: Sum) {
-        for i in 0..8 {
-            self.words[i] ^= other.words[i];
+    fn add(&mut self, other: &Sum) {
+        for (word, more) in self.words.iter_mut().zip(other.words) {
+            *word ^= more;
         }
     }
 }
@@ -45,7 +44,7 @@ pub fn place_of(a: u8, b: u8) -> usize {
 
 // The pairs of station h with each other one.
 fn neighbourhood(n: u8, h: u8) -> Sum {
-    let mut sum = Sum::none();
+    let mut sum = Sum::default();
     for k in 0..n {
         if k != h {
             sum.flip(place_of(h, k));
@@ -56,7 +55,7 @@ fn neighbourhood(n: u8, h: u8) -> Sum {
 
 // The pairs whose stations add up to m, or to n more.
 fn diagonal(n: u8, m: u8) -> Sum {
-    let mut sum = Sum::none();
+    let mut sum = Sum::default();
     for a in 0..n {
         for b in 0..=a {
             if (u16::from(a) + u16::from(b)) % u16::from(n) == u16::from(m) {
@@ -68,48 +67,31 @@ fn diagonal(n: u8, m: u8) -> Sum {
 }
 
 fn sum_rules(heap: Global, n: u8) -> Result<Vec<Sum>, AllocError> {
-    let mut rules = Vec::new(heap);
-    for h in 0..n {
-        rules.push(neighbourhood(n, h))?;
-    }
-    for m in 0..n {
-        rules.push(diagonal(n, m))?;
-    }
-    Ok(rules)
+    let neighbourhoods = (0..n).map(|h| neighbourhood(n, h));
+    let diagonals = (0..n).map(|m| diagonal(n, m));
+    neighbourhoods.chain(diagonals).collect(heap)
 }
 
-// The first rule from one on that has a pair.
-fn find_rule(rules: &[Sum], from: usize, p: usize) -> Option<usize> {
-    for i in from..rules.len() {
-        if rules[i].has(p) {
-            return Some(i);
-        }
-    }
-    None
-}
-
-// Takes a pair out of every rule but one, by adding that one to each that has it.
-fn clear_pair(rules: &mut [Sum], keep: usize, p: usize) {
-    if keep >= rules.len() {
-        return;
-    }
-    let kept = rules[keep];
-    for i in 0..rules.len() {
-        if i != keep && rules[i].has(p) {
-            rules[i].add(kept);
-        }
-    }
-}
-
-// Makes the k-th rule the only one with the k-th of `count` places from `first` on.
-fn eliminate(rules: &mut [Sum], first: usize, count: usize) {
-    for k in 0..count {
-        let p = first.wrapping_add(k);
-        if let Some(i) = find_rule(rules, k, p) {
-            if k < rules.len() && i < rules.len() {
-                rules.swap(k, i);
+// Makes a rule with a pair the first of those that are left, and takes the pair out of every other rule, by adding that one
+// to each that has it.
+fn clear_pair(done: &mut [Sum], left: &mut [Sum], p: usize) {
+    if let Some(i) = left.iter().position(|rule| rule.has(p)) {
+        left.swap(0, i);
+        if let [kept, rest @ ..] = left {
+            for rule in done.iter_mut().chain(rest) {
+                if rule.has(p) {
+                    rule.add(kept);
+                }
             }
-            clear_pair(rules, k, p);
+        }
+    }
+}
+
+// Makes the k-th rule the only one with the k-th of these places.
+fn eliminate(rules: &mut [Sum], places: Range<usize>) {
+    for (k, p) in places.enumerate() {
+        if let Some((done, left)) = rules.split_at_mut_checked(k) {
+            clear_pair(done, left, p);
         }
     }
 }
@@ -123,10 +105,10 @@ pub struct Solution {
 
 impl Solution {
     pub fn of(heap: Global, n: u8) -> Result<Self, AllocError> {
-        let first = count_pairs(n.saturating_sub(2));
+        let places = count_pairs(n.saturating_sub(2))..count_pairs(n);
+        let count = places.len();
         let mut sums = sum_rules(heap, n)?;
-        let count = count_pairs(n).saturating_sub(first);
-        eliminate(sums.as_mut_slice(), first, count);
+        eliminate(sums.as_mut_slice(), places);
         sums.truncate(count);
         Ok(Solution { n, sums })
     }
@@ -142,22 +124,15 @@ impl Solution {
 
     // Whether the pattern of the data pair at one place has the pair at another.
     pub fn in_pattern(&self, data: usize, place: usize) -> bool {
-        let first = self.data_pairs();
-        if place < first {
-            return false;
-        }
-        match self.sums.get(place - first) {
-            Some(sum) => sum.has(data),
-            None => false,
-        }
+        let check = place.checked_sub(self.data_pairs());
+        let sum = check.and_then(|k| self.sums.get(k));
+        sum.is_some_and(|sum| sum.has(data))
     }
 
     // The blocks of all pairs, in place order, with these at the data pairs.
     pub fn encode(&self, heap: Global, blocks: &[Block]) -> Result<Vec<Block>, AllocError> {
         let mut row = Vec::from_slice(heap, blocks)?;
-        for sum in self.sums.iter() {
-            row.push(sum_blocks(sum, blocks))?;
-        }
+        row.extend(self.sums.iter().map(|sum| sum_blocks(sum, blocks)))?;
         Ok(row)
     }
 }
@@ -170,5 +145,5 @@ fn sum_blocks(sum: &Sum, blocks: &[Block]) -> Block {
             add_bytes(&mut bytes, block.as_bytes());
         }
     }
-    Block::from_bytes(bytes)
+    Block::from(bytes)
 }

@@ -18,11 +18,11 @@ mod stops;
 mod tickets;
 
 use anyhow::anyhow;
-use areas::Under;
+use areas::Area;
 use book::Book;
 use calls::compare_list;
 use counts::Counts;
-use damages::compare_sessions;
+use damages::{Compared, compare_sessions};
 use elimination::{Solution, count_pairs};
 use kinds::Block;
 use random::Random;
@@ -30,7 +30,7 @@ use recoveries::{compare_patterns, compare_recoveries};
 use scripts::Bench;
 use serve::{Rack, retire};
 use std::alloc::Global;
-use stops::{Difference, Stop, differs};
+use stops::{Stop, differs};
 use store::{ReadStore, Table, WriteStore, check_table};
 
 const SIZES: [u8; 10] = [3, 5, 7, 11, 13, 17, 19, 23, 29, 31];
@@ -48,57 +48,63 @@ fn compare_size(rt: &HostRuntime, n: u8, random: &mut Random) -> Result<(), Stop
     Ok(())
 }
 
-fn compare_lists(heap: Global, under: Under, start: u64, rack: &mut Rack) -> Result<Counts, Stop> {
+fn compare_lists<A: Area + Drop>(
+    heap: Global,
+    start: u64,
+    rack: &mut Rack,
+) -> Result<Counts, Stop> {
     let mut bench = Bench::new(heap, start);
-    let mut counts = Counts::new();
+    let mut counts = Counts::default();
     for _ in 0..LISTS {
         for n in SIZES {
-            compare_list(&mut bench, under, n, rack, &mut counts)?;
+            compare_list::<A>(&mut bench, n, rack, &mut counts)?;
         }
     }
     Ok(counts)
 }
 
-// The same with a rack of its own, whose tickets are abandoned on a book over a spare store.
-fn compare_under<S: WriteStore + Drop>(
+// The same with a rack of its own, whose tickets are abandoned on a book over a spare store. The store is any: the check does
+// not follow a book over a table of blocks.
+fn compare_calls<A: Area + Drop, S: WriteStore + Drop>(
     heap: Global,
-    under: Under,
     start: u64,
     spare: S,
 ) -> Result<Counts, Stop> {
-    let mut rack = Rack::new(heap);
-    let counts = compare_lists(heap, under, start, &mut rack);
     let mut book = Book::make(spare);
+    let mut rack = Rack::new(heap);
+    let counts = compare_lists::<A>(heap, start, &mut rack);
     retire(&mut book, rack);
     counts
 }
 
-fn compare_calls(heap: Global, under: Under, start: u64) -> Result<Counts, Stop> {
-    let mut row = [Block::from_bytes([0; 64]); 6];
-    if check_table(3, &row).is_err() {
-        return Err(differs("table", 3, 0, 0));
-    }
-    compare_under(heap, under, start, Table::make(3, &mut row))
+// The same, with a table of three stations as the spare store.
+fn compare_over<A: Area + Drop>(heap: Global, start: u64) -> Result<Counts, Stop> {
+    let mut row = [Block::from([0; 64]); 6];
+    check_table(3, &row).map_err(|_| differs("table", 3, 0, 0))?;
+    compare_calls::<A, _>(heap, start, Table::make(3, &mut row))
 }
 
 // How many calls there were, how they were answered, and how many were refused by each fault's number.
 fn tell_counts(rt: &HostRuntime, name: &str, counts: &Counts) -> Result<(), Stop> {
-    let lists = counts.lists;
-    let calls = counts.calls;
-    let stored = counts.stored;
-    let audits = counts.audits;
+    let Counts {
+        lists,
+        calls,
+        stored,
+        audits,
+        given,
+        accepted,
+        untouched,
+        not_made,
+        refused,
+    } = counts;
     println!(rt;
         "{name}: {lists} lists, {calls} calls, {stored} stored blocks, {audits} sound audits"
     )?;
-    let given = counts.given;
-    let accepted = counts.accepted;
-    let untouched = counts.untouched;
-    let not_made = counts.not_made;
     println!(rt;
         "{name}: {given} read, {accepted} accepted, {untouched} untouched, {not_made} not made"
     )?;
     print!(rt; "{name}: refused")?;
-    for (number, count) in counts.refused.iter().enumerate() {
+    for (number, count) in refused.iter().enumerate() {
         if *count > 0 {
             print!(rt; " {number}:{count}")?;
         }
@@ -112,33 +118,26 @@ fn compare_all(rt: &HostRuntime) -> Result<(), Stop> {
     for n in SIZES {
         compare_size(rt, n, &mut random)?;
     }
-    let tables = compare_calls(rt.alloc(), Under::Table, 2)?;
+    let tables = compare_over::<Vec<Block>>(rt.alloc(), 2)?;
     tell_counts(rt, "tables", &tables)?;
-    let images = compare_calls(rt.alloc(), Under::Image, 3)?;
+    let images = compare_over::<Vec<u8>>(rt.alloc(), 3)?;
     tell_counts(rt, "images", &images)?;
-    let sessions = compare_sessions(rt.alloc(), &SIZES)?;
-    let cut = sessions.cut;
-    let flipped = sessions.flipped;
-    let random = sessions.random;
+    let Compared {
+        cut,
+        flipped,
+        random,
+    } = compare_sessions(rt.alloc(), &SIZES)?;
     println!(rt; "sessions: {cut} cut, {flipped} with a flipped bit, {random} random, 2 long")?;
     Ok(())
-}
-
-fn tell_difference(rt: &HostRuntime, difference: Difference) -> anyhow::Result<()> {
-    let Difference {
-        what,
-        size,
-        case,
-        at,
-    } = difference;
-    println!(rt; "difference: {what}, size {size}, case {case}, at {at}")?;
-    Err(anyhow!("the library differs from the model"))
 }
 
 fn main(rt: HostRuntime) -> anyhow::Result<()> {
     match compare_all(&rt) {
         Ok(()) => Ok(()),
-        Err(Stop::Differs(difference)) => tell_difference(&rt, difference),
-        Err(_) => Err(anyhow!("no memory, or no output")),
+        Err(Stop::Differs(difference)) => {
+            println!(rt; "{difference}")?;
+            Err(anyhow!("the library differs from the model"))
+        }
+        Err(Stop::NoMemory | Stop::NoOutput) => Err(anyhow!("no memory, or no output")),
     }
 }

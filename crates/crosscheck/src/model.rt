@@ -1,12 +1,13 @@
 // A book told by its accepted calls alone: how each station stands, and the last write to each data pair.
 use crate::elimination::{count_pairs, place_of};
-use crate::tickets::Tickets;
+use crate::tickets::{Held, Tickets};
+use audit::Verdict;
 use faults::Fault;
 use kinds::Block;
-use serve::{Answer, Call};
+use serve::{Answer, Call, Sort};
 use std::alloc::{AllocError, Global};
 
-#[derive(Clone, Copy)]
+#[derive(Clone, Copy, PartialEq, Eq)]
 pub enum Standing {
     Stands,
     Out,
@@ -21,17 +22,10 @@ pub struct Model {
     written: Vec<Block>,
 }
 
-fn told(answer: Result<(), Fault>) -> Answer<Block> {
-    match answer {
-        Ok(()) => Answer::Accepted,
-        Err(fault) => Answer::Refused(fault),
-    }
-}
-
 impl Model {
     // A book that was just opened.
     pub fn new(heap: Global, n: u8) -> Result<Self, AllocError> {
-        let zero = Block::from_bytes([0; 64]);
+        let zero = Block::from([0; 64]);
         let stations = vec![in heap; Standing::Stands; usize::from(n)]?;
         let written = vec![in heap; zero; count_pairs(n.saturating_sub(2))]?;
         Ok(Model {
@@ -62,78 +56,83 @@ impl Model {
     }
 
     fn set(&mut self, s: u8, to: Standing) {
-        let at = usize::from(s);
-        if at < self.stations.len() {
-            self.stations[at] = to;
+        if let Some(standing) = self.stations.get_mut(usize::from(s)) {
+            *standing = to;
         }
     }
 
     pub fn is_out(&self, s: u8) -> bool {
-        matches!(self.standing(s), Standing::Out)
+        self.standing(s) == Standing::Out
     }
 
     pub fn is_absent(&self, s: u8) -> bool {
-        !matches!(self.standing(s), Standing::Stands)
+        self.standing(s) != Standing::Stands
     }
 
     pub fn count_absent(&self) -> u8 {
-        let mut count: u8 = 0;
-        for s in 0..self.n {
-            if self.is_absent(s) {
-                count = count.saturating_add(1);
-            }
-        }
-        count
+        (0..self.n)
+            .filter(|s| self.is_absent(*s))
+            .fold(0, |count: u8, _| count.saturating_add(1))
     }
 
     // The station that is being filled.
     pub fn filled(&self) -> Option<u8> {
-        for s in 0..self.n {
-            if matches!(self.standing(s), Standing::Filled { .. }) {
-                return Some(s);
-            }
-        }
-        None
+        (0..self.n).find(|s| matches!(self.standing(*s), Standing::Filled { .. }))
     }
 
     // Whether a station is being filled and has no partner left.
     pub fn is_full(&self) -> bool {
-        match self.filled() {
-            Some(s) => matches!(self.standing(s), Standing::Filled { next } if next == self.n),
-            None => false,
-        }
+        let full = Standing::Filled { next: self.n };
+        self.filled().is_some_and(|s| self.standing(s) == full)
     }
 
     // A station that is out, the next from s on.
     pub fn out_from(&self, s: u8) -> Option<u8> {
-        for k in s..self.n {
-            if self.is_out(k) {
-                return Some(k);
-            }
-        }
-        None
+        (s..self.n).find(|k| self.is_out(*k))
     }
 
     // The smallest absent station.
     pub fn first_absent(&self) -> Option<u8> {
-        for s in 0..self.n {
-            if self.is_absent(s) {
-                return Some(s);
-            }
+        (0..self.n).find(|s| self.is_absent(*s))
+    }
+
+    // What an open is answered.
+    pub fn open(&self) -> Result<(), Fault> {
+        match self.out_from(0) {
+            Some(s) => Err(Fault::OutAtOpen(s)),
+            None => Ok(()),
         }
-        None
+    }
+
+    // What an audit is answered.
+    pub fn audit(&self) -> Result<Verdict, Fault> {
+        match self.first_absent() {
+            Some(s) => Err(Fault::AbsentAtAudit(s)),
+            None => Ok(Verdict::Sound),
+        }
+    }
+
+    fn admit(&self, s: u8) -> Result<(), Fault> {
+        if s < self.n {
+            Ok(())
+        } else {
+            Err(Fault::NoSuchStation(s))
+        }
+    }
+
+    fn admit_area(&self, area: usize) -> Result<(), Fault> {
+        if area < self.full_area() {
+            Err(Fault::AreaTooShort(area))
+        } else {
+            Ok(())
+        }
     }
 
     // The place of a data pair.
     fn data_place(&self, a: u8, b: u8, area: usize) -> Result<usize, Fault> {
-        if area < self.full_area() {
-            return Err(Fault::AreaTooShort(area));
-        }
-        for s in [a, b] {
-            if s >= self.n {
-                return Err(Fault::NoSuchStation(s));
-            }
-        }
+        self.admit_area(area)?;
+        self.admit(a)?;
+        self.admit(b)?;
         let larger = a.max(b);
         if larger >= self.n.saturating_sub(2) {
             return Err(Fault::CheckPair(larger));
@@ -151,8 +150,8 @@ impl Model {
     pub fn write(&mut self, a: u8, b: u8, block: Block, area: usize) -> Result<(), Fault> {
         let p = self.data_place(a, b, area)?;
         self.few_absent()?;
-        if p < self.written.len() {
-            self.written[p] = block;
+        if let Some(written) = self.written.get_mut(p) {
+            *written = block;
         }
         Ok(())
     }
@@ -162,14 +161,12 @@ impl Model {
         if self.is_absent(a) || self.is_absent(b) {
             self.few_absent()?;
         }
-        let zero = Block::from_bytes([0; 64]);
+        let zero = Block::from([0; 64]);
         Ok(self.written.get(p).copied().unwrap_or(zero))
     }
 
     pub fn lose(&mut self, s: u8) -> Result<(), Fault> {
-        if s >= self.n {
-            return Err(Fault::NoSuchStation(s));
-        }
+        self.admit(s)?;
         if self.is_absent(s) {
             return Err(Fault::AlreadyAbsent(s));
         }
@@ -178,9 +175,7 @@ impl Model {
     }
 
     pub fn fit(&mut self, s: u8) -> Result<(), Fault> {
-        if s >= self.n {
-            return Err(Fault::NoSuchStation(s));
-        }
+        self.admit(s)?;
         if !self.is_out(s) {
             return Err(Fault::NotOut(s));
         }
@@ -192,28 +187,24 @@ impl Model {
         Ok(())
     }
 
-    // True where the filling is then full.
-    fn fill(&mut self, s: u8, area: usize) -> Result<bool, Fault> {
-        if area < self.full_area() {
-            return Err(Fault::AreaTooShort(area));
-        }
+    fn fill(&mut self, s: u8, area: usize) -> Result<(), Fault> {
+        self.admit_area(area)?;
         let Standing::Filled { next } = self.standing(s) else {
             return Err(Fault::TicketRefused(s));
         };
         self.few_absent()?;
         let next = next.saturating_add(1).min(self.n);
         self.set(s, Standing::Filled { next });
-        Ok(next == self.n)
+        Ok(())
     }
 
     pub fn finish(&mut self, s: u8) -> Result<(), Fault> {
-        match self.standing(s) {
-            Standing::Filled { next } if next == self.n => {
-                self.set(s, Standing::Stands);
-                Ok(())
-            }
-            _ => Err(Fault::TicketRefused(s)),
+        let full = Standing::Filled { next: self.n };
+        if self.standing(s) != full {
+            return Err(Fault::TicketRefused(s));
         }
+        self.set(s, Standing::Stands);
+        Ok(())
     }
 }
 
@@ -227,44 +218,46 @@ impl Model {
         self.finish(s)
     }
 
-    fn fit_for(&mut self, s: u8, tickets: &mut Tickets) -> Answer<Block> {
-        let answer = self.fit(s);
-        if answer.is_ok() {
-            tickets.add(s, false);
-        }
-        told(answer)
+    fn fit_for(&mut self, s: u8, tickets: &mut Tickets) -> Result<Answer<Block>, Fault> {
+        self.fit(s)?;
+        tickets.open.add(s);
+        Ok(Answer::Accepted)
     }
 
-    fn fill_with(&mut self, s: u8, area: usize, tickets: &mut Tickets) -> Answer<Block> {
-        if !tickets.has(s, false) {
-            return Answer::NotMade;
+    fn fill_with(
+        &mut self,
+        s: u8,
+        area: usize,
+        tickets: &mut Tickets,
+    ) -> Result<Answer<Block>, Fault> {
+        if !tickets.open.has(s) {
+            return Ok(Answer::NotMade);
         }
-        match self.fill(s, area) {
-            Ok(full) => {
-                tickets.remove(s, false);
-                tickets.add(s, full);
-                Answer::Accepted
-            }
-            Err(fault) => Answer::Refused(fault),
-        }
+        self.fill(s, area)?;
+        tickets.open.remove(s);
+        let sort = if self.is_full() {
+            Sort::Full
+        } else {
+            Sort::Open
+        };
+        tickets.of_mut(sort).add(s);
+        Ok(Answer::Accepted)
     }
 
-    fn finish_with(&mut self, s: u8, tickets: &mut Tickets) -> Answer<Block> {
-        if !tickets.has(s, true) {
-            return Answer::NotMade;
+    fn finish_with(&mut self, s: u8, tickets: &mut Tickets) -> Result<Answer<Block>, Fault> {
+        if !tickets.full.has(s) {
+            return Ok(Answer::NotMade);
         }
-        let answer = self.finish(s);
-        if answer.is_ok() {
-            tickets.remove(s, true);
-        }
-        told(answer)
+        self.finish(s)?;
+        tickets.full.remove(s);
+        Ok(Answer::Accepted)
     }
 
-    fn abandon(&mut self, s: u8, full: bool, tickets: &mut Tickets) -> Answer<Block> {
-        if !tickets.has(s, full) {
+    fn abandon(&mut self, s: u8, tickets: &mut Held) -> Answer<Block> {
+        if !tickets.has(s) {
             return Answer::NotMade;
         }
-        tickets.remove(s, full);
+        tickets.remove(s);
         match self.standing(s) {
             Standing::Filled { .. } => {
                 self.set(s, Standing::Out);
@@ -275,23 +268,37 @@ impl Model {
     }
 
     // What a call is answered, where the work area has `longest` blocks.
+    fn try_answer(
+        &mut self,
+        call: Call<Block>,
+        longest: usize,
+        tickets: &mut Tickets,
+    ) -> Result<Answer<Block>, Fault> {
+        match call {
+            Call::Write { a, b, block, area } => {
+                self.write(a, b, block, area.min(longest))?;
+                Ok(Answer::Accepted)
+            }
+            Call::Read { a, b, area } => Ok(Answer::Given(self.read(a, b, area.min(longest))?)),
+            Call::Lose { station } => {
+                self.lose(station)?;
+                Ok(Answer::Accepted)
+            }
+            Call::Fit { station } => self.fit_for(station, tickets),
+            Call::Fill { station, area } => self.fill_with(station, area.min(longest), tickets),
+            Call::Finish { station } => self.finish_with(station, tickets),
+            Call::Abandon { station, sort } => Ok(self.abandon(station, tickets.of_mut(sort))),
+        }
+    }
+
+    // The same, with a refusal as an answer.
     pub fn answer(
         &mut self,
         call: Call<Block>,
         longest: usize,
         tickets: &mut Tickets,
     ) -> Answer<Block> {
-        match call {
-            Call::Write { a, b, block, area } => told(self.write(a, b, block, area.min(longest))),
-            Call::Read { a, b, area } => match self.read(a, b, area.min(longest)) {
-                Ok(block) => Answer::Given(block),
-                Err(fault) => Answer::Refused(fault),
-            },
-            Call::Lose { station } => told(self.lose(station)),
-            Call::Fit { station } => self.fit_for(station, tickets),
-            Call::Fill { station, area } => self.fill_with(station, area.min(longest), tickets),
-            Call::Finish { station } => self.finish_with(station, tickets),
-            Call::Abandon { station, full } => self.abandon(station, full, tickets),
-        }
+        self.try_answer(call, longest, tickets)
+            .unwrap_or_else(|fault| Answer::Refused(fault))
     }
 }

@@ -1,5 +1,6 @@
 // Pseudo-random numbers: a shift register of 64 bits, the same at every run.
 use kinds::Block;
+use std::array;
 
 #[derive(Drop)]
 pub struct Random {
@@ -38,10 +39,6 @@ impl Random {
     }
 
     pub fn block(&mut self) -> Block {
-        let mut bytes = [0; 64];
-        for byte in bytes.iter_mut() {
-            *byte = self.byte();
-        }
-        Block::from_bytes(bytes)
+        Block::from(array::from_fn(|_| self.byte()))
     }
 }

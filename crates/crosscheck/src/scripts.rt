@@ -1,20 +1,54 @@
 // Lists of calls with the model's answers.
-use crate::choices::choose_call;
+use crate::choices::Choice;
 use crate::model::Model;
 use crate::random::Random;
 use crate::tickets::Tickets;
+use audit::Verdict;
+use book::Book;
+use faults::Fault;
 use kinds::Block;
-use serve::{Answer, Turn};
+use serve::{Answer, Call, Rack, Turn, carry_on, serve};
 use std::alloc::{AllocError, Global};
+use store::WriteStore;
 
 // A list of calls, the model's answers, and a work area.
 #[derive(Drop)]
 pub struct Script {
     pub turns: Vec<Turn<Block>>,
     pub answers: Vec<Answer<Block>>,
-    pub work: Vec<Block>,
+    work: Vec<Block>,
     // whether the book is opened again after the calls
-    pub reopen: bool,
+    reopen: bool,
+}
+
+// What a book answered to its opens, before the calls and after them, and to an audit.
+#[derive(Clone, Copy)]
+pub struct Outcome {
+    pub opened: Result<(), Fault>,
+    pub reopened: Result<(), Fault>,
+    pub audit: Result<Verdict, Fault>,
+}
+
+impl Script {
+    // Makes the calls on a book over a store, in two parts, and opens it again if asked.
+    pub fn serve<S: WriteStore<Block = Block> + Drop>(
+        &mut self,
+        store: S,
+        rack: &mut Rack,
+    ) -> Outcome {
+        let mut book = Book::make(store);
+        let work = self.work.as_mut_slice();
+        let half = self.turns.len() / 2;
+        let (first, rest) = self.turns.as_mut_slice().split_at_mut(half);
+        let opened = serve(&mut book, first, work, rack);
+        carry_on(&mut book, rest, work, rack);
+        let reopened = if self.reopen { book.open() } else { Ok(()) };
+        Outcome {
+            opened,
+            reopened,
+            audit: book.audit(),
+        }
+    }
 }
 
 // What goes from one list to the next: tickets stay in the rack.
@@ -30,7 +64,7 @@ impl Bench {
         Bench {
             heap,
             random: Random::new(start),
-            tickets: Tickets::none(),
+            tickets: Tickets::default(),
         }
     }
 
@@ -45,6 +79,15 @@ impl Bench {
         vec![in self.heap; self.random.block(); len]
     }
 
+    fn choose(&mut self, model: &Model, calm: bool) -> Call<Block> {
+        let mut choice = Choice {
+            model,
+            tickets: &self.tickets,
+            random: &mut self.random,
+        };
+        choice.call(calm)
+    }
+
     // Chooses calls, and makes them on the model. In every other list the second half loses no station, so that all may
     // stand in the end.
     pub fn write_script(&mut self, model: &mut Model) -> Result<Script, AllocError> {
@@ -54,14 +97,13 @@ impl Bench {
         let mut turns = Vec::new(self.heap);
         let mut answers = Vec::new(self.heap);
         for k in 0..length {
-            let calm = steady && k > length / 2;
-            let call = choose_call(model, &self.tickets, calm, &mut self.random);
+            let call = self.choose(model, steady && k > length / 2);
             answers.push(model.answer(call, work.len(), &mut self.tickets))?;
             let answer = Answer::NotMade;
             turns.push(Turn { call, answer })?;
         }
         // Only where that is refused, so that the store stays as it is.
-        let reopen = model.out_from(0).is_some();
+        let reopen = model.open().is_err();
         Ok(Script {
             turns,
             answers,

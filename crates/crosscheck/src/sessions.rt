@@ -1,75 +1,53 @@
 // The lines that answer the orders of an input, by the model.
+ghost use Rattle.std.specs.Prelude.{◌-◌, length};
+ghost use Rattle.std.specs.Iterator.{at_most};
+
 use crate::model::Model;
 use faults::Fault;
 use kinds::Block;
 use std::alloc::{AllocError, Global};
+use std::{array, fmt};
 
+// What an order is answered that is not refused.
 #[derive(Clone, Copy)]
-enum Reply {
+enum Answer {
     Block(Block),
     Done,
     Sound,
-    No(Fault),
 }
 
-const DIGITS: [u8; 16] = *b"0123456789abcdef";
+impl fmt::Display for Answer {
+    fn fmt<W: fmt::Write>(&self, f: &mut fmt::Formatter<W>) -> fmt::Result {
+        match self {
+            Answer::Block(block) => {
+                write!(f, "block ")?;
+                for byte in block.as_bytes() {
+                    write!(f, "{byte:02x}")?;
+                }
+                Ok(())
+            }
+            Answer::Done => write!(f, "done"),
+            Answer::Sound => write!(f, "sound"),
+        }
+    }
+}
+
+// Adds the line of an answer.
+fn push_line(lines: &mut String, answer: Result<Answer, Fault>) -> Result<(), AllocError> {
+    match answer {
+        Ok(answer) => writeln!(lines, "{answer}"),
+        Err(fault) => {
+            let number = fault.number();
+            let letter = fault.layer().letter();
+            let place = fault.place();
+            writeln!(lines, "no {number} {letter} {place}")
+        }
+    }
+}
 
 // An odd prime from 3 to 31.
 fn is_size(n: u8) -> bool {
-    for d in 2..n {
-        if n % d == 0 {
-            return false;
-        }
-    }
-    n >= 3 && n <= 31
-}
-
-// A byte of a record, or zero past its end.
-fn byte_at(record: &[u8], k: usize) -> u8 {
-    record.get(k).copied().unwrap_or(0)
-}
-
-fn block_from(record: &[u8], at: usize) -> Block {
-    let mut bytes = [0; 64];
-    for k in 0..64 {
-        bytes[k] = byte_at(record, at.saturating_add(k));
-    }
-    Block::from_bytes(bytes)
-}
-
-fn push_block(lines: &mut Vec<u8>, block: &Block) -> Result<(), AllocError> {
-    lines.extend_from_slice(b"block ")?;
-    for byte in block.as_bytes() {
-        let high = DIGITS[usize::from(*byte / 16)];
-        let low = DIGITS[usize::from(*byte % 16)];
-        lines.extend_from_slice(&[high, low])?;
-    }
-    Ok(())
-}
-
-fn push_refusal(heap: Global, lines: &mut Vec<u8>, fault: Fault) -> Result<(), AllocError> {
-    let number = fault.number();
-    let letter = fault.layer().letter();
-    let place = fault.place();
-    let text = format!(in heap; "no {number} {letter} {place}")?;
-    lines.extend_from_slice(text.as_bytes())
-}
-
-fn push_reply(heap: Global, lines: &mut Vec<u8>, reply: Reply) -> Result<(), AllocError> {
-    match reply {
-        Reply::Block(block) => push_block(lines, &block)?,
-        Reply::Done => lines.extend_from_slice(b"done")?,
-        Reply::Sound => lines.extend_from_slice(b"sound")?,
-        Reply::No(fault) => push_refusal(heap, lines, fault)?,
-    }
-    lines.extend_from_slice(b"\n")
-}
-
-fn done(answer: Result<(), Fault>) -> Reply {
-    match answer {
-        Ok(()) => Reply::Done,
-        Err(fault) => Reply::No(fault),
-    }
+    n >= 3 && n <= 31 && (2..n).all(|d| n % d != 0)
 }
 
 // How long what follows the length of a record must be, by its letter.
@@ -83,108 +61,126 @@ fn length_for(letter: u8) -> Option<u16> {
     }
 }
 
-fn length_of(record: &[u8]) -> u16 {
-    u16::from_be_bytes([byte_at(record, 1), byte_at(record, 2)])
+// The bytes of a record, and the offset of the first.
+#[derive(Clone, Copy)]
+struct Record<'a> {
+    bytes: &'a [u8],
+    at: usize,
 }
 
-// What is wrong with the record that begins at an offset.
-fn fault_of(record: &[u8], at: usize) -> Option<Fault> {
-    if record.len() < 3 {
-        return Some(Fault::CutShort(at));
+impl Record<'_> {
+    // A byte, or zero past the end.
+    fn byte(&self, k: usize) -> u8 {
+        self.bytes.get(k).copied().unwrap_or(0)
     }
-    if byte_at(record, 0) != 1 {
-        return Some(Fault::WrongVersion(at));
-    }
-    let length = length_of(record);
-    if length == 0 {
-        return Some(Fault::WrongRecordLength(at.saturating_add(1)));
-    }
-    if record.len() < 3 + usize::from(length) {
-        return Some(Fault::CutShort(at));
-    }
-    match length_for(byte_at(record, 3)) {
-        None => Some(Fault::UnknownLetter(at.saturating_add(3))),
-        Some(wanted) if wanted != length => Some(Fault::WrongRecordLength(at.saturating_add(1))),
-        Some(_) => None,
-    }
-}
 
-fn answer_order(model: &mut Model, record: &[u8]) -> Reply {
-    let area = model.full_area();
-    let a = byte_at(record, 4);
-    let b = byte_at(record, 5);
-    match byte_at(record, 3) {
-        b'R' => match model.read(a, b, area) {
-            Ok(block) => Reply::Block(block),
-            Err(fault) => Reply::No(fault),
-        },
-        b'W' => done(model.write(a, b, block_from(record, 6), area)),
-        b'L' => done(model.lose(a)),
-        b'P' => done(model.replace(a)),
-        _ => match model.first_absent() {
-            Some(s) => Reply::No(Fault::AbsentAtAudit(s)),
-            None => Reply::Sound,
-        },
+    // The length of the rest.
+    fn length(&self) -> u16 {
+        u16::from_be_bytes([self.byte(1), self.byte(2)])
     }
-}
 
-// The reply to a record, and how far the next one is, if the session goes on.
-fn answer_record(model: &mut Model, record: &[u8], at: usize) -> (Reply, Option<usize>) {
-    let step = Some(3 + usize::from(length_of(record)));
-    match fault_of(record, at) {
-        None => (answer_order(model, record), step),
-        Some(fault) => match fault {
-            Fault::CutShort(_) | Fault::WrongVersion(_) => (Reply::No(fault), None),
-            _ => (Reply::No(fault), step),
-        },
+    fn block(&self) -> Block {
+        Block::from(array::from_fn(|k| self.byte(k.saturating_add(6))))
     }
-}
 
-fn answer_records(
-    heap: Global,
-    model: &mut Model,
-    input: &[u8],
-    lines: &mut Vec<u8>,
-) -> Result<(), AllocError> {
-    let mut at: usize = 1;
-    for _ in 0..input.len() {
-        let Some(record) = input.get(at..) else {
-            break;
-        };
-        if record.is_empty() {
-            break;
+    // Whether its length is what its letter asks for.
+    fn check(&self) -> Result<(), Fault> {
+        let wrong = Fault::WrongRecordLength(self.at.saturating_add(1));
+        if self.length() == 0 {
+            return Err(wrong);
         }
-        let (reply, step) = answer_record(model, record, at);
-        push_reply(heap, lines, reply)?;
-        match step {
-            Some(step) => at = at.saturating_add(step),
-            None => break,
+        match length_for(self.byte(3)) {
+            None => Err(Fault::UnknownLetter(self.at.saturating_add(3))),
+            Some(wanted) if wanted != self.length() => Err(wrong),
+            Some(_) => Ok(()),
         }
+    }
+
+    fn answer(&self, model: &mut Model) -> Result<Answer, Fault> {
+        self.check()?;
+        let area = model.full_area();
+        let a = self.byte(4);
+        let b = self.byte(5);
+        match self.byte(3) {
+            b'R' => return Ok(Answer::Block(model.read(a, b, area)?)),
+            b'W' => model.write(a, b, self.block(), area)?,
+            b'L' => model.lose(a)?,
+            b'P' => model.replace(a)?,
+            _ => {
+                model.audit()?;
+                return Ok(Answer::Sound);
+            }
+        }
+        Ok(Answer::Done)
+    }
+}
+
+// The record that begins at an offset; a fault ends the session.
+fn record_at(input: &[u8], at: usize) -> Result<Record<'_>, Fault> {
+    let bytes = input.get(at..).ok_or(Fault::CutShort(at))?;
+    let rest = Record { bytes, at };
+    if bytes.len() < 3 {
+        return Err(Fault::CutShort(at));
+    }
+    if rest.byte(0) != 1 {
+        return Err(Fault::WrongVersion(at));
+    }
+    let whole = 3 + usize::from(rest.length());
+    let bytes = bytes.get(..whole).ok_or(Fault::CutShort(at))?;
+    Ok(Record { bytes, at })
+}
+
+// The records of an input from an offset on, up to the first fault. An empty record would end them too: so the check sees
+// that they end, and there is none.
+#[derive(Drop)]
+struct Records<'a> {
+    input: &'a [u8],
+    at: usize,
+}
+
+impl<'a> Iterator for Records<'a> {
+    type Item = Result<Record<'a>, Fault>;
+
+    ghost remaining = { λ s. at_most (length s.input.now - s.at) };
+
+    fn next(&mut self) -> Option<Result<Record<'a>, Fault>> {
+        let at = self.at;
+        if at >= self.input.len() {
+            return None;
+        }
+        let record = record_at(self.input, at);
+        let len = record.map_or(0, |record| record.bytes.len());
+        let after = at.saturating_add(len);
+        self.at = if after > at { after } else { self.input.len() };
+        Some(record)
+    }
+}
+
+fn answer_records(model: &mut Model, input: &[u8], lines: &mut String) -> Result<(), AllocError> {
+    for record in (Records { input, at: 1 }) {
+        push_line(lines, record.and_then(|record| record.answer(model)))?;
     }
     Ok(())
 }
 
-// What is wrong with a whole input.
-fn refusal_of(input: &[u8]) -> Option<Fault> {
+// The number of stations of a whole input.
+fn size_of(input: &[u8]) -> Result<u8, Fault> {
     if input.len() > 16_384 {
-        return Some(Fault::SessionTooLong);
+        return Err(Fault::SessionTooLong);
     }
     match input.first() {
-        None => Some(Fault::CutShort(0)),
-        Some(n) if is_size(*n) => None,
-        Some(n) => Some(Fault::NotASize(*n)),
+        None => Err(Fault::CutShort(0)),
+        Some(n) if is_size(*n) => Ok(*n),
+        Some(n) => Err(Fault::NotASize(*n)),
     }
 }
 
 // The lines of a whole session.
-pub fn model_lines(heap: Global, input: &[u8]) -> Result<Vec<u8>, AllocError> {
-    let mut lines = Vec::new(heap);
-    match refusal_of(input) {
-        Some(fault) => push_reply(heap, &mut lines, Reply::No(fault))?,
-        None => {
-            let mut model = Model::new(heap, byte_at(input, 0))?;
-            answer_records(heap, &mut model, input, &mut lines)?;
-        }
+pub fn model_lines(heap: Global, input: &[u8]) -> Result<String, AllocError> {
+    let mut lines = String::new(heap);
+    match size_of(input) {
+        Ok(n) => answer_records(&mut Model::new(heap, n)?, input, &mut lines)?,
+        Err(fault) => push_line(&mut lines, Err(fault))?,
     }
     Ok(lines)
 }

@@ -1,6 +1,6 @@
 // Why the comparison stops before its end.
 use std::alloc::AllocError;
-use std::io;
+use std::{fmt, io};
 
 // Where the model and the library differ first.
 #[derive(Clone, Copy)]
@@ -11,6 +11,18 @@ pub struct Difference {
     pub case: usize,
     // the call, or the place of the pair
     pub at: usize,
+}
+
+impl fmt::Display for Difference {
+    fn fmt<W: fmt::Write>(&self, f: &mut fmt::Formatter<W>) -> fmt::Result {
+        let Difference {
+            what,
+            size,
+            case,
+            at,
+        } = self;
+        write!(f, "difference: {what}, size {size}, case {case}, at {at}")
+    }
 }
 
 #[derive(Clone, Copy)]

@@ -3,7 +3,7 @@
 
 use std::io::Read;
 
-// One byte more than the longest image has.
+// One byte more than the longest image has. `take_out` reads one in the same way; a crate for a few lines would be no plainer.
 const LIMIT: u64 = 31_755;
 
 fn run(rt: &HostRuntime) -> anyhow::Result<()> {

@@ -1,5 +1,5 @@
 // The calls that are served. A write has a text in place of its block.
-use serve::Call;
+use serve::{Call, Sort};
 
 // The work area that seven stations ask for.
 const AREA: usize = 56;
@@ -95,11 +95,11 @@ pub fn first_loss() -> [Call<&'static str>; 33] {
         fill(2),
         Call::Abandon {
             station: 2,
-            full: false,
+            sort: Sort::Open,
         },
         Call::Abandon {
             station: 2,
-            full: false,
+            sort: Sort::Open,
         },
         fill(3),
         fill(3),
@@ -129,11 +129,11 @@ pub fn second_loss() -> [Call<&'static str>; 19] {
         fill(5),
         Call::Abandon {
             station: 5,
-            full: true,
+            sort: Sort::Full,
         },
         Call::Abandon {
             station: 5,
-            full: false,
+            sort: Sort::Open,
         },
         fill(5),
         write(4, 0, "isle"),

@@ -15,12 +15,28 @@ use std::alloc::{AllocError, Global};
 use store::{ReadStore, Table, WriteStore, check_table};
 use texts::{in_text, turn};
 
-// Adds the calls to a list, with no answer yet.
-fn add(turns: &mut Vec<Turn<Block>>, calls: &[Call<&'static str>]) -> Result<(), AllocError> {
-    for call in calls {
-        turns.push(turn(*call))?;
+// A list of calls with their answers, and the row of blocks that a table of seven stations lies in.
+#[derive(Drop)]
+struct Part {
+    turns: Vec<Turn<Block>>,
+    row: Vec<Block>,
+}
+
+impl Part {
+    fn new(heap: Global) -> Result<Self, AllocError> {
+        Ok(Part {
+            turns: Vec::new(heap),
+            row: vec![in heap; Block::zero(); 28]?,
+        })
     }
-    Ok(())
+
+    // Adds calls with no answer yet.
+    fn add(&mut self, calls: &[Call<&'static str>]) -> Result<(), AllocError> {
+        for call in calls {
+            self.turns.push(turn(*call))?;
+        }
+        Ok(())
+    }
 }
 
 // Opens the book, makes the calls, and audits it at the end.
@@ -34,7 +50,14 @@ fn run_calls<S: WriteStore>(
     book.audit()
 }
 
-// What the audits of two books answer in the end. A ticket of the first stays in the rack, and the second refuses it.
+// What the audits of the two books answer in the end.
+#[derive(Clone, Copy)]
+struct Audits {
+    first: Result<Verdict, Fault>,
+    second: Result<Verdict, Fault>,
+}
+
+// Makes each list of calls on a book of its own. A ticket of the first stays in the rack, and the second refuses it.
 fn run_both<S: WriteStore + Drop>(
     heap: Global,
     one: S,
@@ -42,30 +65,36 @@ fn run_both<S: WriteStore + Drop>(
     lost: &mut [Turn<S::Block>],
     kept: &mut [Turn<S::Block>],
     work: &mut [S::Block],
-) -> (Result<Verdict, Fault>, Result<Verdict, Fault>) {
-    let mut first = Book::make(one);
-    let mut second = Book::make(other);
+) -> Audits {
+    let mut one_book = Book::make(one);
+    let mut other_book = Book::make(other);
     let mut rack = Rack::new(heap);
-    let first_audit = run_calls(&mut first, lost, work, &mut rack);
-    let second_audit = run_calls(&mut second, kept, work, &mut rack);
-    retire(&mut second, rack);
-    (first_audit, second_audit)
+    let first = run_calls(&mut one_book, lost, work, &mut rack);
+    let second = run_calls(&mut other_book, kept, work, &mut rack);
+    retire(&mut other_book, rack);
+    Audits { first, second }
 }
 
-// The same over two rows, as tables of seven stations.
-fn run_rows<'a>(
+// The same over the rows of two parts, as tables of seven stations. In one function the two do not prove: the check does not
+// follow a book over a table of blocks, but one over any store.
+fn run_parts(
+    lost: &mut Part,
+    kept: &mut Part,
     heap: Global,
-    one: &'a mut [Block],
-    other: &'a mut [Block],
-    lost: &mut [Turn<Block>],
-    kept: &mut [Turn<Block>],
     work: &mut [Block],
-) -> Result<(Result<Verdict, Fault>, Result<Verdict, Fault>), Fault> {
+) -> Result<Audits, Fault> {
+    let one = lost.row.as_mut_slice();
+    let other = kept.row.as_mut_slice();
     check_table(7, one)?;
     check_table(7, other)?;
-    let first = Table::make(7, one);
-    let second = Table::make(7, other);
-    Ok(run_both(heap, first, second, lost, kept, work))
+    Ok(run_both(
+        heap,
+        Table::make(7, one),
+        Table::make(7, other),
+        lost.turns.as_mut_slice(),
+        kept.turns.as_mut_slice(),
+        work,
+    ))
 }
 
 // Prints a line for each call, and one for the audit.
@@ -87,34 +116,23 @@ fn tell(
 
 fn run(rt: &HostRuntime) -> anyhow::Result<()> {
     let heap = rt.alloc();
-    let mut lost = Vec::new(heap);
-    add(&mut lost, &too_many())?;
-    let mut kept = Vec::new(heap);
-    add(&mut kept, &begin())?;
-    add(&mut kept, &first_loss())?;
-    add(&mut kept, &second_loss())?;
-    add(&mut kept, &third_loss())?;
-    add(&mut kept, &swap(0))?;
-    add(&mut kept, &swap(4))?;
-    add(&mut kept, &end())?;
-    let mut one = vec![in heap; Block::zero(); 28]?;
-    let mut other = vec![in heap; Block::zero(); 28]?;
-    let mut work = vec![in heap; Block::zero(); 56]?;
-    let ran = run_rows(
-        heap,
-        one.as_mut_slice(),
-        other.as_mut_slice(),
-        lost.as_mut_slice(),
-        kept.as_mut_slice(),
-        work.as_mut_slice(),
-    );
-    let Ok((first, second)) = ran else {
+    let mut lost = Part::new(heap)?;
+    lost.add(&too_many())?;
+    let mut kept = Part::new(heap)?;
+    kept.add(&begin())?;
+    kept.add(&first_loss())?;
+    kept.add(&second_loss())?;
+    kept.add(&third_loss())?;
+    kept.add(&swap(0))?;
+    kept.add(&swap(4))?;
+    kept.add(&end())?;
+    let Ok(audits) = run_parts(&mut lost, &mut kept, heap, &mut [Block::zero(); 56]) else {
         return Err(anyhow!("no table"));
     };
     println!(rt; "the first book")?;
-    tell(rt, lost.as_slice(), first)?;
+    tell(rt, lost.turns.as_slice(), audits.first)?;
     println!(rt; "the second book")?;
-    tell(rt, kept.as_slice(), second)
+    tell(rt, kept.turns.as_slice(), audits.second)
 }
 
 fn main(rt: HostRuntime) -> anyhow::Result<()> {

@@ -30,40 +30,20 @@ impl fmt::Display for Text {
 // The first 64 bytes of a text, and zeros after a shorter one.
 fn block_of(text: &str) -> Block {
     let mut bytes = [0; 64];
-    for (to, from) in bytes.iter_mut().zip(text.as_bytes().iter()) {
-        *to = *from;
-    }
-    Block::from_bytes(bytes)
+    let len = text.len().min(64);
+    bytes[..len].copy_from_slice(&text.as_bytes()[..len]);
+    Block::from(bytes)
 }
 
-// A call that writes the block of a text, and no answer yet.
-pub fn turn(call: Call<&'static str>) -> Turn<Block> {
-    let call = match call {
-        Call::Write { a, b, block, area } => Call::Write {
-            a,
-            b,
-            block: block_of(block),
-            area,
-        },
-        Call::Read { a, b, area } => Call::Read { a, b, area },
-        Call::Lose { station } => Call::Lose { station },
-        Call::Fit { station } => Call::Fit { station },
-        Call::Fill { station, area } => Call::Fill { station, area },
-        Call::Finish { station } => Call::Finish { station },
-        Call::Abandon { station, full } => Call::Abandon { station, full },
-    };
-    Turn {
-        call,
-        answer: Answer::NotMade,
-    }
-}
-
-fn call_in_text(call: Call<Block>) -> Call<Text> {
+// The same call, with another block where it writes one.
+fn with_block<B, C, F: FnOnce(B) -> C>(call: Call<B>, to: F) -> Call<C>
+    requires { F.IsAlwaysCallable to }
+{
     match call {
         Call::Write { a, b, block, area } => Call::Write {
             a,
             b,
-            block: Text { block },
+            block: to(block),
             area,
         },
         Call::Read { a, b, area } => Call::Read { a, b, area },
@@ -71,7 +51,15 @@ fn call_in_text(call: Call<Block>) -> Call<Text> {
         Call::Fit { station } => Call::Fit { station },
         Call::Fill { station, area } => Call::Fill { station, area },
         Call::Finish { station } => Call::Finish { station },
-        Call::Abandon { station, full } => Call::Abandon { station, full },
+        Call::Abandon { station, sort } => Call::Abandon { station, sort },
+    }
+}
+
+// A call that writes the block of a text, and no answer yet.
+pub fn turn(call: Call<&'static str>) -> Turn<Block> {
+    Turn {
+        call: with_block(call, |text| block_of(text)),
+        answer: Answer::NotMade,
     }
 }
 
@@ -88,7 +76,7 @@ fn answer_in_text(answer: Answer<Block>) -> Answer<Text> {
 // The same call and answer, with blocks that are shown as text.
 pub fn in_text(turn: Turn<Block>) -> Turn<Text> {
     Turn {
-        call: call_in_text(turn.call),
+        call: with_block(turn.call, |block| Text { block }),
         answer: answer_in_text(turn.answer),
     }
 }

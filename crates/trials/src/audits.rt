@@ -1,11 +1,12 @@
 // Audits: lawful images, a flipped bit in each pair, and stations that are out.
-use crate::samples::{five, flip, three};
-use audit::{Verdict, audit, audit_beside, first_absent, is_absent};
+use crate::samples::{PAIRS, five, flip, three};
+use audit::{Verdict, audit, audit_beside, first_absent};
 use code::Marks;
 use faults::Fault;
 use image::{ReadImage, check_image};
 use std::process::Abort;
 use std::test::Fail;
+use store::{Beside, ReadStore};
 
 // The audit of an image answers so, in a case of this number.
 fn audits(
@@ -36,36 +37,23 @@ fn first_rule(larger: u8, smaller: u8) -> Verdict {
 
 #[test]
 fn one_bit_flipped(rt: HostRuntime) -> Result<(), Fail> {
-    let mut p = 0usize;
-    for larger in 0..5 {
-        for smaller in 0..=larger {
-            let mut bytes = five(rt.alloc(), 0)?;
-            flip(&mut bytes, p)?;
-            audits(&rt, bytes.as_slice(), Ok(first_rule(larger, smaller)), p)?;
-            p = p.wrapping_add(1);
-        }
+    for (p, (larger, smaller)) in PAIRS.into_iter().enumerate() {
+        let mut bytes = five(rt.alloc(), 0)?;
+        flip(bytes.as_mut_slice(), p)?;
+        audits(&rt, bytes.as_slice(), Ok(first_rule(larger, smaller)), p)?;
     }
-    assert_eq!(rt; p, 15);
     Ok(())
 }
 
 // The smallest station below five that is marked.
 fn smallest(marks: u32) -> Option<u8> {
-    for s in 0..5 {
-        if (marks >> s) & 1 == 1 {
-            return Some(s);
-        }
-    }
-    None
+    (0..5).find(|s| (marks >> *s) & 1 == 1)
 }
 
 #[test]
 fn stations_out(rt: HostRuntime) -> Result<(), Fail> {
     for marks in 0..32 {
-        let answer = match smallest(marks) {
-            Some(s) => Err(Fault::AbsentAtAudit(s)),
-            None => Ok(Verdict::Sound),
-        };
+        let answer = smallest(marks).map_or(Ok(Verdict::Sound), |s| Err(Fault::AbsentAtAudit(s)));
         let image = five(rt.alloc(), marks)?;
         audits(&rt, image.as_slice(), answer, marks as usize)?;
     }
@@ -80,18 +68,18 @@ fn stations_beside(rt: HostRuntime) -> Result<(), Fail> {
     check_image(bytes)?;
     let store = ReadImage::make(bytes);
     for also in 0..64 {
-        let beside = Marks::from_bits(also);
+        let beside = Beside {
+            store: &store,
+            also: Marks::from(also),
+        };
         let first = smallest(also | 0b01000);
-        assert_eq!(rt; first_absent(&store, beside), first, "{}", also);
+        assert_eq!(rt; first_absent(&beside), first, "{}", also);
         assert_eq!(rt;
-            audit_beside(&store, beside),
+            audit_beside(&store, beside.also),
             Err(Fault::AbsentAtAudit(first.ok_or("none")?))
         );
         for s in 0..=255 {
-            assert_eq!(rt;
-                is_absent(&store, beside, s),
-                s == 3 || s < 5 && (also >> s) & 1 == 1
-            );
+            assert_eq!(rt; beside.is_out(s), s == 3 || s < 5 && (also >> s) & 1 == 1);
         }
     }
     Ok(())
@@ -104,13 +92,17 @@ fn stations_past_the_last(rt: HostRuntime) -> Result<(), Fail> {
     let bytes = image.as_slice();
     check_image(bytes)?;
     let store = ReadImage::make(bytes);
-    assert_eq!(rt; first_absent(&store, Marks::from_bits(0b100000)), None);
+    let beside = Beside {
+        store: &store,
+        also: Marks::from(0b100000),
+    };
+    assert_eq!(rt; first_absent(&beside), None);
     assert_eq!(rt;
-        audit_beside(&store, Marks::from_bits(0b100000)),
+        audit_beside(&store, Marks::from(0b100000)),
         Ok(Verdict::Sound)
     );
     assert_eq!(rt;
-        audit_beside(&store, Marks::from_bits(0b010000)),
+        audit_beside(&store, Marks::from(0b010000)),
         Err(Fault::AbsentAtAudit(4))
     );
     Ok(())

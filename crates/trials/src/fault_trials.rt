@@ -41,6 +41,7 @@ fn number_layer_place(rt: HostRuntime) -> Result<(), Fail> {
 fn same_as_only(rt: &impl Abort, fault: Fault, text: &str) {
     for (other, _, other_text) in CASES {
         assert_eq!(rt; fault == other, text == other_text, "{}", fault);
+        assert_eq!(rt; fault.says_the_same(other), text == other_text, "{}", fault);
     }
 }
 

@@ -1,5 +1,5 @@
 // Images: what is refused, in which order, and what a sound one answers.
-use crate::samples::{FIVE, five, set, summed, zeros};
+use crate::samples::{FIVE, PAIRS, SIZES, five, set, summed, zeros};
 use faults::Fault;
 use image::{ReadImage, check_image};
 use kinds::Block;
@@ -16,11 +16,11 @@ fn answer(heap: Global, bytes: &[u8]) -> Result<String, AllocError> {
     }
 }
 
-// The answer on the image of five stations after two of its bytes are set.
-fn answer_after(heap: Global, changes: [(usize, u8); 2]) -> Result<String, Fail> {
+// The answer on the image of five stations after some of its bytes are set.
+fn answer_after(heap: Global, changes: &[(usize, u8)]) -> Result<String, Fail> {
     let mut bytes = five(heap, 0)?;
     for (at, value) in changes {
-        set(&mut bytes, at, value)?;
+        set(bytes.as_mut_slice(), *at, *value)?;
     }
     Ok(answer(heap, bytes.as_slice())?)
 }
@@ -50,7 +50,7 @@ fn one_byte_changed(rt: HostRuntime) -> Result<(), Fail> {
     ];
     for (at, value, text) in cases {
         assert_eq!(rt;
-            answer_after(rt.alloc(), [(at, value), (at, value)])?.as_str(),
+            answer_after(rt.alloc(), &[(at, value)])?.as_str(),
             text,
             "{}",
             at
@@ -71,7 +71,7 @@ fn checks_in_order(rt: HostRuntime) -> Result<(), Fail> {
         ((4, 0), (9, 0x20), "13 r 970"),
     ];
     for (one, other, text) in cases {
-        assert_eq!(rt; answer_after(rt.alloc(), [one, other])?.as_str(), text);
+        assert_eq!(rt; answer_after(rt.alloc(), &[one, other])?.as_str(), text);
     }
     Ok(())
 }
@@ -109,19 +109,7 @@ fn nine_and_ten_bytes(rt: HostRuntime) {
 // Of each size: the mark of station n - 1 is accepted, that of station n is not.
 #[test]
 fn marks_at_the_edge(rt: HostRuntime) -> Result<(), Fail> {
-    let cases = [
-        (3, 6),
-        (5, 15),
-        (7, 28),
-        (11, 66),
-        (13, 91),
-        (17, 153),
-        (19, 190),
-        (23, 276),
-        (29, 435),
-        (31, 496),
-    ];
-    for (n, pairs) in cases {
+    for (n, pairs) in SIZES {
         let last = zeros(rt.alloc(), n, pairs, 1u32.wrapping_shl(u32::from(n)) >> 1)?;
         assert_eq!(rt; check_image(last.as_slice()), Ok(()), "{}", n);
         let stray = zeros(rt.alloc(), n, pairs, 1u32.wrapping_shl(u32::from(n)))?;
@@ -138,55 +126,31 @@ fn marks_at_the_edge(rt: HostRuntime) -> Result<(), Fail> {
 // Station numbers below five, at five and above.
 const NUMBERS: [u8; 9] = [0, 1, 2, 3, 4, 5, 6, 31, 255];
 
-// What refuses the pair where stations 1 and 3 are out.
-fn refusal(a: u8, b: u8) -> Option<Fault> {
-    for s in [a, b] {
-        if s >= 5 {
-            return Some(Fault::NoSuchStation(s));
-        }
+// What is answered for the pair where stations 1 and 3 are out.
+fn with_two_out(a: u8, b: u8) -> Result<(), Fault> {
+    if let Some(s) = [a, b].into_iter().find(|s| *s >= 5) {
+        return Err(Fault::NoSuchStation(s));
     }
-    for s in [1, 3] {
-        if a == s || b == s {
-            return Some(Fault::StationOut(s));
-        }
+    if let Some(s) = [1, 3].into_iter().find(|s| a == *s || b == *s) {
+        return Err(Fault::StationOut(s));
     }
-    None
+    Ok(())
 }
 
-// What stands at the pair of a and b, counted row by row.
+// What stands at the pair of a and b.
 fn expected(a: u8, b: u8) -> [u8; 64] {
-    let mut p = 0usize;
-    for larger in 0..5 {
-        for smaller in 0..=larger {
-            if (larger, smaller) == (a, b) || (smaller, larger) == (a, b) {
-                return summed(FIVE.get(p).copied().unwrap_or(0));
-            }
-            p = p.wrapping_add(1);
-        }
-    }
-    [0; 64]
+    let pair = (a.max(b), a.min(b));
+    let place = PAIRS.iter().position(|other| *other == pair);
+    let summands = place.and_then(|p| FIVE.get(p)).copied();
+    summed(summands.unwrap_or(0))
 }
 
-fn gets(
-    rt: &impl Abort,
-    image: &ReadImage<'_>,
-    a: u8,
-    b: u8,
-    refused: Option<Fault>,
-) -> Result<(), Fail> {
-    let mut into = Block::from_bytes([0xab; 64]);
-    match refused {
-        Some(fault) => {
-            assert_eq!(rt; image.get(a, b, &mut into), Err(fault));
-            assert_eq!(rt; into.bytes(), [0xab; 64]);
-            Ok(())
-        }
-        None => {
-            assert_eq!(rt; image.get(a, b, &mut into), Ok(()));
-            assert_eq!(rt; into.bytes(), expected(a, b));
-            Ok(())
-        }
-    }
+// A get answers so, and where it is refused it leaves the caller's place as it was.
+fn gets(rt: &impl Abort, image: &ReadImage<'_>, a: u8, b: u8, answer: Result<(), Fault>) {
+    let mut into = Block::from([0xab; 64]);
+    assert_eq!(rt; image.get(a, b, &mut into), answer);
+    let bytes = answer.map_or([0xab; 64], |()| expected(a, b));
+    assert_eq!(rt; *into.as_bytes(), bytes);
 }
 
 #[test]
@@ -196,7 +160,7 @@ fn get_with_all_in(rt: HostRuntime) -> Result<(), Fail> {
     let image = ReadImage::make(bytes.as_slice());
     for a in 0..5 {
         for b in 0..5 {
-            gets(&rt, &image, a, b, None)?;
+            gets(&rt, &image, a, b, Ok(()));
         }
     }
     Ok(())
@@ -209,7 +173,7 @@ fn get_with_two_out(rt: HostRuntime) -> Result<(), Fail> {
     let image = ReadImage::make(bytes.as_slice());
     for a in NUMBERS {
         for b in NUMBERS {
-            gets(&rt, &image, a, b, refusal(a, b))?;
+            gets(&rt, &image, a, b, with_two_out(a, b));
         }
     }
     Ok(())

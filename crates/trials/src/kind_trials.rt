@@ -1,5 +1,6 @@
 // The laws of block kinds on some blocks.
 use kinds::{Block, BlockKind};
+use std::array;
 use std::process::Abort;
 
 fn keep_laws<B: BlockKind>(rt: &impl Abort, x: B, y: B, z: B) {
@@ -29,16 +30,12 @@ fn some_blocks() -> [Block; 5] {
     first[0] = 1;
     let mut last = [0; 64];
     last[63] = 128;
-    let mut counted = [0; 64];
-    for i in 0..64u8 {
-        counted[usize::from(i)] = i;
-    }
     [
-        Block::from_bytes([0; 64]),
-        Block::from_bytes([255; 64]),
-        Block::from_bytes(first),
-        Block::from_bytes(last),
-        Block::from_bytes(counted),
+        Block::from([0; 64]),
+        Block::from([255; 64]),
+        Block::from(first),
+        Block::from(last),
+        Block::from(array::from_fn(|i| (i & 0xff) as u8)),
     ]
 }
 
@@ -46,16 +43,14 @@ fn some_blocks() -> [Block; 5] {
 fn blocks(rt: HostRuntime) {
     for (i, x) in some_blocks().iter().enumerate() {
         for (j, y) in some_blocks().iter().enumerate() {
-            keep_laws(&rt, *x, *y, Block::from_bytes([7; 64]));
+            keep_laws(&rt, *x, *y, Block::from([7; 64]));
             assert_eq!(rt; x.same(*y), i == j, "{}", i);
-            assert_eq!(rt; x.bytes() == *y.as_bytes(), i == j, "{}", j);
+            assert_eq!(rt; x.as_bytes() == y.as_bytes(), i == j, "{}", j);
         }
     }
-    assert_eq!(rt; Block::zero().bytes(), [0; 64]);
+    assert_eq!(rt; <[u8; 64]>::from(Block::zero()), [0; 64]);
     assert_eq!(rt;
-        Block::from_bytes([12; 64])
-            .add(Block::from_bytes([10; 64]))
-            .bytes(),
+        *Block::from([12; 64]).add(Block::from([10; 64])).as_bytes(),
         [6; 64]
     );
 }

@@ -37,7 +37,7 @@ fn broken(rt: HostRuntime) -> Result<(), Fail> {
         (9, "size 5\nout none\nbroken D 1\n"),
     ] {
         let mut bytes = five(heap, 0)?;
-        flip(&mut bytes, place)?;
+        flip(bytes.as_mut_slice(), place)?;
         inspects(&rt, heap, bytes.as_slice(), text)?;
     }
     Ok(())
@@ -68,7 +68,7 @@ fn refused(rt: HostRuntime) -> Result<(), Fail> {
         (9, 0x20, "no 15 r 6\n"),
     ] {
         let mut bytes = five(heap, 0)?;
-        set(&mut bytes, at, value)?;
+        set(bytes.as_mut_slice(), at, value)?;
         inspects(&rt, heap, bytes.as_slice(), text)?;
     }
     Ok(())

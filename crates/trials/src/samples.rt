@@ -1,6 +1,41 @@
 // Images made by hand, with the check pairs of three and of five stations written out as tables.
+// The trials of the stores list the pairs of five stations too: each crate of trials stands by itself.
 use std::alloc::{AllocError, Global};
+use std::array;
 use std::test::Fail;
+
+// The sizes, each with how many pairs it has.
+pub const SIZES: [(u8, usize); 10] = [
+    (3, 6),
+    (5, 15),
+    (7, 28),
+    (11, 66),
+    (13, 91),
+    (17, 153),
+    (19, 190),
+    (23, 276),
+    (29, 435),
+    (31, 496),
+];
+
+// The pairs of five stations in place order, the larger station first.
+pub const PAIRS: [(u8, u8); 15] = [
+    (0, 0),
+    (1, 0),
+    (1, 1),
+    (2, 0),
+    (2, 1),
+    (2, 2),
+    (3, 0),
+    (3, 1),
+    (3, 2),
+    (3, 3),
+    (4, 0),
+    (4, 1),
+    (4, 2),
+    (4, 3),
+    (4, 4),
+];
 
 // For each place, which data pairs add up to its block: the bit of weight 2^d stands for the data pair at place d.
 pub const FIVE: [u8; 15] = [
@@ -21,41 +56,24 @@ fn data_byte(d: u8, j: u8) -> u8 {
 
 // Byte j of the sum of some data pairs.
 fn summed_byte(summands: u8, j: u8) -> u8 {
-    let mut sum = 0;
-    for d in 0..6 {
-        if (summands >> d) & 1 == 1 {
-            sum ^= data_byte(d, j);
-        }
-    }
-    sum
+    (0..6)
+        .filter(|d| (summands >> *d) & 1 == 1)
+        .fold(0, |sum, d| sum ^ data_byte(d, j))
 }
 
 // The sum of some data pairs.
 pub fn summed(summands: u8) -> [u8; 64] {
-    let mut block = [0; 64];
-    for j in 0..64u8 {
-        block[usize::from(j)] = summed_byte(summands, j);
-    }
-    block
+    array::from_fn(|j| summed_byte(summands, (j & 0xff) as u8))
 }
 
-fn header(heap: Global, n: u8, length: u32, marks: u32) -> Result<Vec<u8>, AllocError> {
-    let mut bytes = Vec::new(heap);
-    bytes.push(1)?;
+// An image of n stations whose blocks are the sums of a table.
+fn image(heap: Global, n: u8, marks: u32, table: &[u8]) -> Result<Vec<u8>, AllocError> {
+    let pairs = (table.len() & 0xffff) as u32;
+    let length = pairs.wrapping_mul(64).wrapping_add(5);
+    let mut bytes = vec![in heap; 1]?;
     bytes.extend_from_slice(&length.to_be_bytes())?;
     bytes.push(n)?;
     bytes.extend_from_slice(&marks.to_be_bytes())?;
-    Ok(bytes)
-}
-
-fn filled(
-    heap: Global,
-    n: u8,
-    length: u32,
-    marks: u32,
-    table: &[u8],
-) -> Result<Vec<u8>, AllocError> {
-    let mut bytes = header(heap, n, length, marks)?;
     for summands in table {
         bytes.extend_from_slice(&summed(*summands))?;
     }
@@ -64,41 +82,27 @@ fn filled(
 
 // A lawful image of five stations, 970 bytes.
 pub fn five(heap: Global, marks: u32) -> Result<Vec<u8>, AllocError> {
-    filled(heap, 5, 965, marks, &FIVE)
+    image(heap, 5, marks, &FIVE)
 }
 
 // A lawful image of three stations, 394 bytes.
 pub fn three(heap: Global, marks: u32) -> Result<Vec<u8>, AllocError> {
-    filled(heap, 3, 389, marks, &THREE)
+    image(heap, 3, marks, &THREE)
 }
 
 // An image whose blocks are all zero.
-pub fn zeros(heap: Global, n: u8, pairs: u32, marks: u32) -> Result<Vec<u8>, AllocError> {
-    let length = pairs.wrapping_mul(64).wrapping_add(5);
-    let mut bytes = header(heap, n, length, marks)?;
-    for _ in 0..pairs {
-        bytes.extend_from_slice(&[0; 64])?;
-    }
-    Ok(bytes)
+pub fn zeros(heap: Global, n: u8, pairs: usize, marks: u32) -> Result<Vec<u8>, AllocError> {
+    image(heap, n, marks, vec![in heap; 0; pairs]?.as_slice())
 }
 
-pub fn set(bytes: &mut Vec<u8>, at: usize, value: u8) -> Result<(), Fail> {
-    match bytes.get_mut(at) {
-        Some(byte) => {
-            *byte = value;
-            Ok(())
-        }
-        None => Err(Fail::new("no such byte")),
-    }
+pub fn set(bytes: &mut [u8], at: usize, value: u8) -> Result<(), Fail> {
+    *bytes.get_mut(at).ok_or("no such byte")? = value;
+    Ok(())
 }
 
 // Flips a bit of the block at a place.
-pub fn flip(bytes: &mut Vec<u8>, place: usize) -> Result<(), Fail> {
-    match bytes.get_mut(place.wrapping_mul(65).wrapping_add(10)) {
-        Some(byte) => {
-            *byte ^= 64;
-            Ok(())
-        }
-        None => Err(Fail::new("no such byte")),
-    }
+pub fn flip(bytes: &mut [u8], place: usize) -> Result<(), Fail> {
+    let at = place.wrapping_mul(65).wrapping_add(10);
+    *bytes.get_mut(at).ok_or("no such byte")? ^= 64;
+    Ok(())
 }

@@ -1,75 +1,45 @@
 // Sizes against trial division.
+use crate::samples::SIZES;
 use code::Size;
 use faults::Fault;
-use std::process::Abort;
 use std::test::Fail;
 
 // An odd prime from 3 to 31?
 fn is_odd_prime(n: u8) -> bool {
-    if n < 3 || n > 31 || n % 2 == 0 {
-        return false;
-    }
-    for c in 2..n {
-        if n % c == 0 {
-            return false;
-        }
-    }
-    true
+    n >= 3 && n <= 31 && n % 2 == 1 && (2..n).all(|c| n % c != 0)
 }
 
-fn tried(rt: &impl Abort, n: u8) -> Result<(), Fail> {
-    match Size::new(n) {
-        Ok(size) => {
-            assert!(rt; is_odd_prime(n), "{}", n);
-            assert_eq!(rt; size.number(), n);
-            Ok(())
-        }
-        Err(fault) => {
-            assert!(rt; !is_odd_prime(n), "{}", n);
-            assert_eq!(rt; fault, Fault::NotASize(n));
-            Ok(())
-        }
-    }
+// The number of the size that is made of a number.
+fn made(n: u8) -> Result<u8, Fault> {
+    Ok(Size::try_from(n)?.number())
 }
 
 #[test]
-fn every_number(rt: HostRuntime) -> Result<(), Fail> {
+fn every_number(rt: HostRuntime) {
     for n in 0..=255 {
-        tried(&rt, n)?;
+        let wanted = if is_odd_prime(n) {
+            Ok(n)
+        } else {
+            Err(Fault::NotASize(n))
+        };
+        assert_eq!(rt; made(n), wanted, "{}", n);
     }
-    Ok(())
 }
 
 #[test]
-fn refused_and_accepted(rt: HostRuntime) -> Result<(), Fail> {
+fn refused_and_accepted(rt: HostRuntime) {
     for n in [2, 9, 33] {
-        match Size::new(n) {
-            Ok(_) => return Err(Fail::new(n)),
-            Err(fault) => assert_eq!(rt; fault, Fault::NotASize(n)),
-        }
+        assert_eq!(rt; made(n), Err(Fault::NotASize(n)));
     }
     for n in [3, 31] {
-        assert_eq!(rt; Size::new(n)?.number(), n);
+        assert_eq!(rt; made(n), Ok(n));
     }
-    Ok(())
 }
 
 #[test]
 fn pairs_of_each_size(rt: HostRuntime) -> Result<(), Fail> {
-    let cases = [
-        (3, 6),
-        (5, 15),
-        (7, 28),
-        (11, 66),
-        (13, 91),
-        (17, 153),
-        (19, 190),
-        (23, 276),
-        (29, 435),
-        (31, 496),
-    ];
-    for (n, pairs) in cases {
-        assert_eq!(rt; Size::new(n)?.pairs(), pairs, "{}", n);
+    for (n, pairs) in SIZES {
+        assert_eq!(rt; Size::try_from(n)?.pairs(), pairs, "{}", n);
     }
     Ok(())
 }

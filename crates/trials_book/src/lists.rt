@@ -7,6 +7,7 @@ use image::{Image, check_image};
 use kinds::{Block, BlockKind};
 use serve::{Answer, Call, Rack, Turn, retire, serve};
 use std::alloc::Global;
+use std::array;
 use std::process::Abort;
 use std::test::Fail;
 use store::{ReadStore, Table, WriteStore, check_table};
@@ -19,11 +20,8 @@ const PAIRS: [(u8, u8); 6] = [(0, 0), (1, 0), (1, 1), (0, 2), (2, 1), (2, 2)];
 
 // A block of its own for each number below 251.
 fn sample(k: usize) -> Block {
-    let mut bytes = [0; 64];
-    for i in 0..64 {
-        bytes[i] = (k.wrapping_mul(37).wrapping_add(i.wrapping_mul(11)) % 251) as u8;
-    }
-    Block::from_bytes(bytes)
+    let byte = |i: usize| (k.wrapping_mul(37).wrapping_add(i.wrapping_mul(11)) % 251) as u8;
+    Block::from(array::from_fn(byte))
 }
 
 // A call with no answer yet.
@@ -109,57 +107,37 @@ fn all_swaps(rt: &impl Abort, heap: Global) -> Result<Vec<Turn<Block>>, Fail> {
     Ok(turns)
 }
 
-// The block of a pair after a call that was accepted, where it was `last` before.
-fn after(call: Call<Block>, a: u8, b: u8, last: Block) -> Block {
-    match call {
-        Call::Write {
-            a: c,
-            b: d,
-            block,
-            ..
-        } => {
-            if a.max(b) == c.max(d) && a.min(b) == c.min(d) {
-                block
-            } else {
-                last
-            }
+// What an accepted call wrote at a pair.
+fn written(turn: &Turn<Block>, a: u8, b: u8) -> Option<Block> {
+    match (turn.call, turn.answer) {
+        (
+            Call::Write {
+                a: c,
+                b: d,
+                block,
+                ..
+            },
+            Answer::Accepted,
+        ) => {
+            let same_pair = (a, b) == (c, d) || (a, b) == (d, c);
+            same_pair.then_some(block)
         }
-        _ => last,
+        _ => None,
     }
 }
 
-fn accepted(answer: Answer<Block>) -> bool {
-    matches!(answer, Answer::Accepted)
+// The last accepted write of a pair, zero if there is none.
+fn last_write(turns: &[Turn<Block>], a: u8, b: u8) -> Block {
+    let last = turns.iter().rev().find_map(|turn| written(turn, a, b));
+    last.unwrap_or(Block::zero())
 }
 
-fn gives(answer: Answer<Block>, x: Block) -> bool {
-    match answer {
-        Answer::Given(block) => block.same(x),
-        _ => false,
-    }
-}
-
-// The last accepted write of a pair before turn i, zero if there is none.
-fn last_write(turns: &[Turn<Block>], i: usize, a: u8, b: u8) -> Block {
-    let mut last = Block::zero();
-    for turn in turns.iter().take(i) {
-        if accepted(turn.answer) {
-            last = after(turn.call, a, b, last);
-        }
-    }
-    last
-}
-
-// Every read gives the last write, and every other call is accepted.
-fn holds(rt: &impl Abort, turns: &[Turn<Block>]) {
-    for (i, turn) in turns.iter().enumerate() {
-        let call = turn.call;
-        match call {
-            Call::Read { a, b, .. } => {
-                assert!(rt; gives(turn.answer, last_write(turns, i, a, b)), "{}", i)
-            }
-            _ => assert!(rt; accepted(turn.answer), "{}", i),
-        }
+// After these turns, a read gives the last write, and every other call is accepted.
+fn is_right(before: &[Turn<Block>], turn: &Turn<Block>) -> bool {
+    match (turn.call, turn.answer) {
+        (Call::Read { a, b, .. }, Answer::Given(block)) => block.same(last_write(before, a, b)),
+        (Call::Read { .. }, _) => false,
+        (_, answer) => matches!(answer, Answer::Accepted),
     }
 }
 
@@ -168,50 +146,42 @@ fn run<S: WriteStore<Block = Block> + Drop>(
     heap: Global,
     store: S,
     turns: &mut [Turn<Block>],
-    work: &mut [Block],
 ) -> Result<Verdict, Fault> {
     let mut book = Book::make(store);
     let mut rack = Rack::new(heap);
-    let served = serve(&mut book, turns, work, &mut rack);
+    let served = serve(&mut book, turns, &mut [Block::zero(); AREA], &mut rack);
     retire(&mut book, rack);
     served?;
     book.audit()
 }
 
-#[test]
-fn swaps_over_a_table(rt: HostRuntime) -> Result<(), Fail> {
-    let mut turns = all_swaps(&rt, rt.alloc())?;
-    let mut row = [sample(7); 15];
-    check_table(5, &row)?;
-    let table = Table::make(5, &mut row);
-    let verdict = run(
-        rt.alloc(),
-        table,
-        turns.as_mut_slice(),
-        &mut [Block::zero(); AREA],
-    );
+// Every call of the list is answered right over a store, which is sound in the end.
+fn swaps_over<S: WriteStore<Block = Block> + Drop>(
+    rt: &impl Abort,
+    heap: Global,
+    store: S,
+) -> Result<(), Fail> {
+    let mut turns = all_swaps(rt, heap)?;
+    let verdict = run(heap, store, turns.as_mut_slice());
     assert_eq!(rt; verdict, Ok(Verdict::Sound));
-    holds(&rt, turns.as_slice());
+    let turns = turns.as_slice();
+    for (i, turn) in turns.iter().enumerate() {
+        assert!(rt; is_right(&turns[..i], turn), "{}", i);
+    }
     Ok(())
 }
 
 #[test]
+fn swaps_over_a_table(rt: HostRuntime) -> Result<(), Fail> {
+    let mut row = [sample(7); 15];
+    check_table(5, &row)?;
+    swaps_over(&rt, rt.alloc(), Table::make(5, &mut row))
+}
+
+#[test]
 fn swaps_over_an_image(rt: HostRuntime) -> Result<(), Fail> {
-    let mut turns = all_swaps(&rt, rt.alloc())?;
     let mut bytes = [0; 970];
-    bytes[0] = 1;
-    bytes[3] = 3;
-    bytes[4] = 0xC5;
-    bytes[5] = 5;
+    bytes[..10].copy_from_slice(&[1, 0, 0, 3, 0xC5, 5, 0, 0, 0, 0]);
     check_image(&bytes)?;
-    let image = Image::make(&mut bytes);
-    let verdict = run(
-        rt.alloc(),
-        image,
-        turns.as_mut_slice(),
-        &mut [Block::zero(); AREA],
-    );
-    assert_eq!(rt; verdict, Ok(Verdict::Sound));
-    holds(&rt, turns.as_slice());
-    Ok(())
+    swaps_over(&rt, rt.alloc(), Image::make(&mut bytes))
 }

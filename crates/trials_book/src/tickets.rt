@@ -1,6 +1,6 @@
 // Calls made one by one: tickets are handed back, and the caller's place and work area stay.
 use audit::Verdict;
-use book::{Book, Ticket};
+use book::{Book, OpenTicket, Ticket};
 use faults::Fault;
 use kinds::BlockKind;
 use std::process::Abort;
@@ -32,12 +32,7 @@ fn open_and_audit(rt: HostRuntime) -> Result<(), Fail> {
 }
 
 fn all_same<B: BlockKind>(blocks: &[B], x: B) -> bool {
-    for block in blocks {
-        if !x.same(*block) {
-            return false;
-        }
-    }
-    true
+    blocks.iter().all(|block| x.same(*block))
 }
 
 // A refused read or write leaves the caller's place and the work area, all of them x, as they were.
@@ -91,12 +86,12 @@ fn refused_reads_and_writes(rt: HostRuntime) -> Result<(), Fail> {
     three_lost(&rt, Table::make(5, &mut row), &mut work, true)
 }
 
-// Fills by an open ticket: the ticket that comes out or back, and the fault.
-pub fn fill_by<S: WriteStore>(
-    book: &mut Book<S>,
-    ticket: Ticket,
-    work: &mut [S::Block],
-) -> (Ticket, Option<Fault>) {
+// The ticket that comes out of a call or back from it, and the fault that refused the call. A struct would be no plainer:
+// a ticket cannot be let go, so each use takes the two apart at once.
+type Handed = (Ticket, Option<Fault>);
+
+// Fills by an open ticket.
+pub fn fill_by<S: WriteStore>(book: &mut Book<S>, ticket: Ticket, work: &mut [S::Block]) -> Handed {
     match ticket {
         Ticket::Open(open) => match book.fill(open, work) {
             Ok(next) => (next, None),
@@ -106,11 +101,22 @@ pub fn fill_by<S: WriteStore>(
     }
 }
 
-// Finishes by a full ticket, or gives the ticket back with the fault.
-pub fn finish_by<S: WriteStore>(
+// Fills by an open ticket, and by each that comes out, five times.
+pub fn fill_up<S: WriteStore>(
     book: &mut Book<S>,
-    ticket: Ticket,
-) -> Result<(), (Ticket, Option<Fault>)> {
+    open: OpenTicket,
+    work: &mut [S::Block],
+) -> Ticket {
+    let mut ticket = Ticket::Open(open);
+    for _ in 0..5 {
+        let (next, _) = fill_by(book, ticket, work);
+        ticket = next;
+    }
+    ticket
+}
+
+// Finishes by a full ticket, or hands the ticket back.
+pub fn finish_by<S: WriteStore>(book: &mut Book<S>, ticket: Ticket) -> Result<(), Handed> {
     match ticket {
         Ticket::Full(full) => match book.finish(full) {
             Ok(()) => Ok(()),
@@ -173,19 +179,19 @@ fn stale_open_tickets(rt: HostRuntime) -> Result<(), Fail> {
     Ok(())
 }
 
-// What a full ticket is told by a book, and whether its own book takes it then.
+// The fault by which a book refuses a full ticket that its own book then takes.
 fn told<S: WriteStore>(
     ticket: Ticket,
     other: &mut Book<S>,
     own: &mut Book<S>,
-) -> (Option<Fault>, bool) {
+) -> Result<Option<Fault>, Fail> {
     match finish_by(other, ticket) {
-        Ok(()) => (None, false),
+        Ok(()) => Err(Fail::new("not refused")),
         Err((back, fault)) => match finish_by(own, back) {
-            Ok(()) => (fault, true),
+            Ok(()) => Ok(fault),
             Err((rest, _)) => {
                 let _ = own.abandon(rest);
-                (fault, false)
+                Err(Fail::new("not taken"))
             }
         },
     }
@@ -208,15 +214,10 @@ fn stale_full<S: WriteStore + Drop>(
     // Ended at a book that is not filling, so that its own goes on.
     let touched = own.abandon(half);
     assert!(rt; !touched, "{}", s);
-    let one = Ticket::Open(own.fit(s)?);
-    let (two, _) = fill_by(&mut own, one, work);
-    let (three, _) = fill_by(&mut own, two, work);
-    let (four, _) = fill_by(&mut own, three, work);
-    let (five, _) = fill_by(&mut own, four, work);
-    let (full, _) = fill_by(&mut own, five, work);
-    let (fault, taken) = told(full, &mut begun, &mut own);
+    let open = own.fit(s)?;
+    let full = fill_up(&mut own, open, work);
+    let fault = told(full, &mut begun, &mut own)?;
     assert_eq!(rt; fault, Some(Fault::TicketRefused(s)), "{}", s);
-    assert!(rt; taken, "{}", s);
     assert_eq!(rt; own.audit(), Ok(Verdict::Sound), "{}", s);
     assert_eq!(rt; begun.audit(), Err(Fault::AbsentAtAudit(s)), "{}", s);
     Ok(())

@@ -1,5 +1,6 @@
 // Lawful rows of blocks of five and seven stations.
 use kinds::{Block, BlockKind};
+use std::array;
 
 // For each data pair in place order, the places of the check pairs that are 1 where it alone of the data pairs is 1: a
 // check pair at place q is one of them where the bit of weight 2^q is set.
@@ -12,11 +13,8 @@ pub const SEVEN: [u32; 15] = [
 
 // A block of its own for each place.
 pub fn sample(p: usize) -> Block {
-    let mut bytes = [0; 64];
-    for i in 0..64 {
-        bytes[i] = (p.wrapping_mul(37).wrapping_add(i.wrapping_mul(11)) % 251) as u8;
-    }
-    Block::from_bytes(bytes)
+    let byte = |i: usize| (p.wrapping_mul(37).wrapping_add(i.wrapping_mul(11)) % 251) as u8;
+    Block::from(array::from_fn(byte))
 }
 
 // Adds a sample to its own place and to each place of its pattern.
@@ -29,14 +27,10 @@ fn add_sample(row: &mut [Block], p: usize, pattern: u32) {
 }
 
 // The blocks of all pairs: samples at the data pairs, and at each check pair the sum of those whose pattern has it.
-pub fn lay_lawful(patterns: &[u32], row: &mut [Block]) {
-    for (p, pattern) in patterns.iter().enumerate() {
-        add_sample(row, p, *pattern);
-    }
-}
-
 pub fn lawful_row(patterns: &[u32]) -> [Block; 28] {
     let mut row = [Block::zero(); 28];
-    lay_lawful(patterns, &mut row);
+    for (p, pattern) in patterns.iter().enumerate() {
+        add_sample(&mut row, p, *pattern);
+    }
     row
 }

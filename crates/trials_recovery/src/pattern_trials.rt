@@ -6,18 +6,13 @@ use std::test::Fail;
 
 // The pattern of a data pair has these check pairs and no other, and the bits past the pairs stay.
 fn has_pattern(rt: &impl Abort, n: u8, a: u8, b: u8, ones: &[(u8, u8)]) -> Result<(), Fail> {
-    let size = Size::new(n)?;
+    let size = Size::try_from(n)?;
     let mut work = [true; 40];
     let mut bits = [true; 20];
     pattern(size, a, b, &mut work, &mut bits)?;
     for (p, bit) in bits.iter().enumerate() {
-        let mut expected = p >= size.pairs();
-        for (x, y) in ones {
-            if place(*x, *y) == p {
-                expected = true;
-            }
-        }
-        assert_eq!(rt; *bit, expected);
+        let is_one = ones.iter().any(|(x, y)| place(*x, *y) == p);
+        assert_eq!(rt; *bit, is_one || p >= size.pairs());
     }
     Ok(())
 }

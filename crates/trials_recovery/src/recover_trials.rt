@@ -21,7 +21,7 @@ pub fn recovers_each<S: ReadStore<Block = Block>>(
         for b in 0..n {
             let mut x = Block::zero();
             recover(store, a, b, work, &mut x)?;
-            assert!(rt; x.same(block_at(row, place(a, b))?));
+            assert_eq!(rt; x, block_at(row, place(a, b))?);
         }
     }
     Ok(())
@@ -30,7 +30,7 @@ pub fn recovers_each<S: ReadStore<Block = Block>>(
 // So it is with stations i and j out and their blocks overwritten.
 fn recovers(rt: &impl Abort, n: u8, i: u8, j: u8, row: &[Block; 28]) -> Result<(), Fail> {
     let mut held = *row;
-    let lost = Block::from_bytes([0xEE; 64]);
+    let lost = Block::from([0xEE; 64]);
     check_table(n, &held)?;
     let mut table = Table::make(n, &mut held);
     for k in 0..n {

@@ -1,5 +1,5 @@
 // The bytes of a pair of an image, and the recovery of an image's lost pairs.
-use crate::areas::{block_at, says};
+use crate::areas::block_at;
 use crate::lawful::{FIVE, lawful_row};
 use crate::recover_trials::recovers_each;
 use code::{pair_at, place};
@@ -12,16 +12,12 @@ use store::WriteStore;
 
 // Lays a row of blocks into the bytes of an image of five stations, and loses stations 1 and 4.
 fn lay_image(row: &[Block; 28], bytes: &mut [u8; 970]) -> Result<(), Fail> {
-    bytes[0] = 1;
-    bytes[3] = 3;
-    bytes[4] = 0xC5;
-    bytes[5] = 5;
+    bytes[..10].copy_from_slice(&[1, 0, 0, 3, 0xC5, 5, 0, 0, 0, 0]);
     check_image(bytes)?;
     let mut image = Image::make(bytes);
-    for p in 0..15 {
-        if let Some(pair) = pair_at(p) {
-            image.put(pair.larger, pair.smaller, row[p])?;
-        }
+    for (p, block) in row.iter().take(15).enumerate() {
+        let pair = pair_at(p).ok_or("no such place")?;
+        image.put(pair.larger, pair.smaller, *block)?;
     }
     image.take_out(1)?;
     image.take_out(4)?;
@@ -48,26 +44,15 @@ fn shown<'a>(bytes: &'a [u8], a: u8, b: u8, second: &'a [u8]) -> Result<&'a [u8]
     ReadImage::make(bytes).show(a, b, second)
 }
 
-// Whether these bytes are shown.
-fn shows<'a>(
-    bytes: &'a [u8],
-    a: u8,
-    b: u8,
-    second: &'a [u8],
-    expected: &'a [u8],
-) -> Result<bool, Fault> {
-    Ok(shown(bytes, a, b, second)? == expected)
-}
-
 // The first bytes of the second area are shown where station 1 or 4 is in the pair, else its own.
 fn shown_right(rt: &impl Abort, bytes: &[u8], a: u8, b: u8, row: &[Block]) -> Result<(), Fail> {
     let lost = a == 1 || a == 4 || b == 1 || b == 4;
     let expected = if lost {
         [0xAB; 64]
     } else {
-        block_at(row, place(a, b))?.bytes()
+        *block_at(row, place(a, b))?.as_bytes()
     };
-    assert!(rt; shows(bytes, a, b, &[0xAB; 70], &expected)?);
+    assert_eq!(rt; shown(bytes, a, b, &[0xAB; 70]), Ok(expected.as_slice()));
     Ok(())
 }
 
@@ -85,26 +70,18 @@ fn shown_bytes(rt: HostRuntime) -> Result<(), Fail> {
 }
 
 // With a second area of this length, the showing of a pair is refused so.
-fn show_refused(
-    rt: &impl Abort,
-    a: u8,
-    b: u8,
-    length: usize,
-    slip: (u8, char, usize),
-) -> Result<(), Fail> {
+fn show_refused(rt: &impl Abort, a: u8, b: u8, length: usize, fault: Fault) -> Result<(), Fail> {
     let mut bytes = [0; 970];
     lay_image(&lawful_row(&FIVE), &mut bytes)?;
     let second = [0; 64];
     assert!(rt; length <= 64);
-    match shown(&bytes, a, b, &second[0..length]) {
-        Ok(_) => Err(Fail::new("not refused")),
-        Err(fault) => says(rt, Err(fault), slip),
-    }
+    assert_eq!(rt; shown(&bytes, a, b, &second[0..length]), Err(fault));
+    Ok(())
 }
 
 #[test]
 fn show_refusals(rt: HostRuntime) -> Result<(), Fail> {
-    show_refused(&rt, 9, 9, 63, (3, 'b', 63))?;
-    show_refused(&rt, 5, 9, 64, (4, 's', 5))?;
-    show_refused(&rt, 1, 9, 64, (4, 's', 9))
+    show_refused(&rt, 9, 9, 63, Fault::AreaTooShort(63))?;
+    show_refused(&rt, 5, 9, 64, Fault::NoSuchStation(5))?;
+    show_refused(&rt, 1, 9, 64, Fault::NoSuchStation(9))
 }

@@ -3,41 +3,34 @@ use audit::Verdict;
 use faults::Fault;
 use kinds::Block;
 use orders::{Reply, lay_line};
+use std::array;
 use std::process::Abort;
 
 // The bytes 192, 193 and so on.
 fn sample() -> Block {
-    let mut bytes = [0; 64];
-    for i in 0..64u8 {
-        bytes[usize::from(i)] = i.wrapping_add(192);
-    }
-    Block::from_bytes(bytes)
+    Block::from(array::from_fn(|i| (i & 0xff) as u8 | 192))
 }
 
 // The line stands at the front of the area, and the bytes after it, all 238, stay.
-fn lays(rt: &impl Abort, reply: &Reply, area: &mut [u8], text: &str) {
+fn lays(rt: &impl Abort, reply: &Reply<Block>, area: &mut [u8], text: &str) {
     assert_eq!(rt; lay_line(reply, area), Ok(text.len()));
-    for (i, byte) in area.iter().enumerate() {
-        assert_eq!(rt;
-            *byte,
-            text.as_bytes().get(i).copied().unwrap_or(238),
-            "{}",
-            i
-        );
-    }
+    assert!(rt; area.starts_with(text.as_bytes()), "{}", text);
+    assert!(rt;
+        area.iter().skip(text.len()).all(|byte| *byte == 238),
+        "{}",
+        text
+    );
 }
 
 // The area, all 238, is refused, and stays.
-fn refuses(rt: &impl Abort, reply: &Reply, area: &mut [u8]) {
+fn refuses(rt: &impl Abort, reply: &Reply<Block>, area: &mut [u8]) {
     let len = area.len();
     assert_eq!(rt; lay_line(reply, area), Err(Fault::AreaTooShort(len)));
-    for byte in area.iter() {
-        assert_eq!(rt; *byte, 238);
-    }
+    assert!(rt; area.iter().all(|byte| *byte == 238));
 }
 
 // The line of a reply in areas of 135 and 200 bytes; whatever the line, one of 134 bytes is refused.
-fn tells(rt: &impl Abort, reply: Reply, text: &str) {
+fn tells(rt: &impl Abort, reply: Reply<Block>, text: &str) {
     let mut tight = [238; 135];
     let mut wide = [238; 200];
     let mut short = [238; 134];

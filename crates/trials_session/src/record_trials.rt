@@ -1,5 +1,5 @@
 // Single records, at the edge of each check.
-use orders::{Order, Reading, read_record};
+use orders::{Order, Record, read_record};
 use std::alloc::{AllocError, Global};
 use std::test::Fail;
 
@@ -16,12 +16,22 @@ fn order_text(heap: Global, order: Order<'_>) -> Result<String, AllocError> {
 // What is read at an offset, as text.
 fn reading_text(heap: Global, input: &[u8], at: usize) -> Result<String, AllocError> {
     match read_record(input, at) {
-        Reading::Taken { order, len } => {
+        Ok(
+            Record {
+                order: Ok(order),
+                len,
+            },
+        ) => {
             let text = order_text(heap, order)?;
             format!(in heap; "{len}: {text}")
         }
-        Reading::Passed { fault, len } => format!(in heap; "{len}: {fault}"),
-        Reading::Ended(fault) => format!(in heap; "end: {fault}"),
+        Ok(
+            Record {
+                order: Err(fault),
+                len,
+            },
+        ) => format!(in heap; "{len}: {fault}"),
+        Err(fault) => format!(in heap; "end: {fault}"),
     }
 }
 
@@ -98,18 +108,16 @@ fn letters(rt: HostRuntime) -> Result<(), Fail> {
 #[test]
 fn bytes_of_a_write(rt: HostRuntime) -> Result<(), Fail> {
     let mut input = vec![in rt.alloc(); 9, 1, 0, 67, b'W']?;
-    for byte in 5..80 {
-        input.push(byte)?;
-    }
+    input.extend(5..80)?;
     match read_record(input.as_slice(), 1) {
-        Reading::Taken {
-            order: Order::Write { a: 5, b: 6, bytes },
-            len: 70,
-        } => {
+        Ok(
+            Record {
+                order: Ok(Order::Write { a: 5, b: 6, bytes }),
+                len: 70,
+            },
+        ) => {
             assert_eq!(rt; bytes.len(), 64);
-            for (i, byte) in bytes.iter().enumerate() {
-                assert_eq!(rt; usize::from(*byte), i.wrapping_add(7));
-            }
+            assert!(rt; bytes.iter().copied().eq(7..71));
             Ok(())
         }
         _ => Err(Fail::new("no write")),

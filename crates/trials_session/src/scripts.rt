@@ -1,5 +1,6 @@
 // Scripts: the records of a session, each with the line that is to answer it.
 use std::alloc::{AllocError, Global};
+use std::fmt;
 use std::process::Abort;
 use std::test::Fail;
 use transcript::transcribe;
@@ -14,7 +15,8 @@ pub enum Record {
     Audit,
 }
 
-// A line. The 64 bytes of a block are all the same; a refusal has its number, layer and place.
+// A line. The 64 bytes of a block are all the same; a refusal has its number, layer and place, and no fault of the library,
+// so that the text is the trial's own.
 #[derive(Clone, Copy)]
 pub enum Line {
     Shows(u8),
@@ -36,19 +38,20 @@ pub fn add_record(input: &mut Vec<u8>, record: Record) -> Result<(), AllocError>
     }
 }
 
-fn line_text(heap: Global, line: Line) -> Result<String, AllocError> {
-    match line {
-        Line::Shows(byte) => {
-            let digits = format!(in heap; "{byte:02x}")?;
-            let mut text = String::from_str(heap, "block ")?;
-            for _ in 0..64 {
-                text.push_str(digits.as_str())?;
+impl fmt::Display for Line {
+    fn fmt<W: fmt::Write>(&self, f: &mut fmt::Formatter<W>) -> fmt::Result {
+        match self {
+            Line::Shows(byte) => {
+                write!(f, "block ")?;
+                for _ in 0..64 {
+                    write!(f, "{byte:02x}")?;
+                }
+                Ok(())
             }
-            Ok(text)
+            Line::Done => write!(f, "done"),
+            Line::Sound => write!(f, "sound"),
+            Line::No(number, layer, place) => write!(f, "no {number} {layer} {place}"),
         }
-        Line::Done => String::from_str(heap, "done"),
-        Line::Sound => String::from_str(heap, "sound"),
-        Line::No(number, layer, place) => format!(in heap; "no {number} {layer} {place}"),
     }
 }
 
@@ -65,8 +68,7 @@ pub fn plays(rt: &impl Abort, heap: Global, n: u8, script: &[(Record, Line)]) ->
     let mut text = String::new(heap);
     for (record, line) in script {
         add_record(&mut input, *record)?;
-        text.push_str(line_text(heap, *line)?.as_str())?;
-        text.push_str("\n")?;
+        writeln!(text, "{line}")?;
     }
     answers(rt, heap, input.as_slice(), text.as_str().as_bytes())
 }

@@ -1,6 +1,7 @@
 // Tables: which rows are refused, what a call refuses, and what it leaves of the row.
-use crate::calls::{Call, REFUSALS, Slip, marked, news, put_all, refuses, says};
-use crate::samples::{block_at, sample_row};
+use crate::calls::{REFUSALS, Refusal, marked, news, put_all};
+use crate::samples::{PAIRS, sample_row};
+use faults::Fault;
 use kinds::{Block, BlockKind};
 use std::process::Abort;
 use std::test::Fail;
@@ -8,26 +9,25 @@ use store::{Table, WriteStore, check_table};
 
 // The size is refused before the length.
 #[test]
-fn rows_refused(rt: HostRuntime) -> Result<(), Fail> {
+fn rows_refused(rt: HostRuntime) {
     let row = sample_row();
     let cases = [
-        (2, 20, (1, 'b', 2)),
-        (9, 20, (1, 'b', 9)),
-        (33, 20, (1, 'b', 33)),
-        (2, 0, (1, 'b', 2)),
-        (9, 14, (1, 'b', 9)),
-        (33, 0, (1, 'b', 33)),
-        (3, 0, (3, 'b', 0)),
-        (3, 5, (3, 'b', 5)),
-        (5, 6, (3, 'b', 6)),
-        (5, 14, (3, 'b', 14)),
-        (7, 20, (3, 'b', 20)),
+        (2, 20, Fault::NotASize(2)),
+        (9, 20, Fault::NotASize(9)),
+        (33, 20, Fault::NotASize(33)),
+        (2, 0, Fault::NotASize(2)),
+        (9, 14, Fault::NotASize(9)),
+        (33, 0, Fault::NotASize(33)),
+        (3, 0, Fault::AreaTooShort(0)),
+        (3, 5, Fault::AreaTooShort(5)),
+        (5, 6, Fault::AreaTooShort(6)),
+        (5, 14, Fault::AreaTooShort(14)),
+        (7, 20, Fault::AreaTooShort(20)),
     ];
-    for (n, length, slip) in cases {
+    for (n, length, fault) in cases {
         assert!(rt; length <= 20);
-        says(&rt, check_table(n, &row[0..length]), slip, usize::from(n))?;
+        assert_eq!(rt; check_table(n, &row[0..length]), Err(fault), "{}", n);
     }
-    Ok(())
 }
 
 #[test]
@@ -37,15 +37,6 @@ fn rows_passed(rt: HostRuntime) {
         assert!(rt; length <= 20);
         assert_eq!(rt; check_table(n, &row[0..length]), Ok(()), "{}", length);
     }
-}
-
-// The same blocks, place by place.
-fn same_rows(rt: &impl Abort, row: &[Block], other: &[Block]) -> Result<(), Fail> {
-    assert_eq!(rt; row.len(), other.len());
-    for (p, x) in row.iter().enumerate() {
-        assert!(rt; x.same(block_at(other, p)?), "{}", p);
-    }
-    Ok(())
 }
 
 // Takes out the stations of these marks.
@@ -58,30 +49,21 @@ fn take_marked(table: &mut Table<'_, Block>, marks: u8) -> Result<(), Fail> {
     Ok(())
 }
 
-fn table_refuses(
-    rt: &impl Abort,
-    row: &mut [Block],
-    marks: u8,
-    call: Call,
-    slip: Slip,
-    case: usize,
-) -> Result<(), Fail> {
+fn table_refuses(rt: &impl Abort, row: &mut [Block], refusal: Refusal) -> Result<(), Fail> {
     check_table(5, row)?;
     let mut table = Table::make(5, row);
-    take_marked(&mut table, marks)?;
-    refuses(rt, &mut table, marks, call, slip, case)
+    take_marked(&mut table, refusal.out)?;
+    refusal.holds_on(rt, &mut table);
+    Ok(())
 }
 
 #[test]
 fn calls_refused(rt: HostRuntime) -> Result<(), Fail> {
-    let mut i = 0usize;
-    for (marks, call, slip) in REFUSALS {
+    for (out, call, fault) in REFUSALS {
         let mut row = sample_row();
-        table_refuses(&rt, &mut row, marks, call, slip, i)?;
-        same_rows(&rt, &row, &sample_row())?;
-        i = i.wrapping_add(1);
+        table_refuses(&rt, &mut row, Refusal { out, call, fault })?;
+        assert_eq!(rt; row, sample_row());
     }
-    assert_eq!(rt; i, 30);
     Ok(())
 }
 
@@ -99,32 +81,14 @@ fn use_all(rt: &impl Abort, row: &mut [Block]) -> Result<(), Fail> {
     Ok(())
 }
 
-fn set_block(row: &mut [Block], p: usize, x: Block) -> Result<(), Fail> {
-    if p >= row.len() {
-        return Err(Fail::new("no such place"));
-    }
-    row[p] = x;
-    Ok(())
-}
-
-// Lays what was put at each pair, counted row by row.
-fn lay_news(rt: &impl Abort, row: &mut [Block]) -> Result<(), Fail> {
-    let mut p = 0usize;
-    for larger in 0..5 {
-        for smaller in 0..=larger {
-            set_block(row, p, news(larger, smaller))?;
-            p = p.wrapping_add(1);
-        }
-    }
-    assert_eq!(rt; p, 15);
-    Ok(())
-}
-
 #[test]
 fn longer_row_keeps_its_tail(rt: HostRuntime) -> Result<(), Fail> {
     let mut expected = sample_row();
-    lay_news(&rt, &mut expected)?;
+    for (slot, (larger, smaller)) in expected.iter_mut().zip(PAIRS) {
+        *slot = news(larger, smaller);
+    }
     let mut row = sample_row();
     use_all(&rt, &mut row)?;
-    same_rows(&rt, &row, &expected)
+    assert_eq!(rt; row, expected);
+    Ok(())
 }
