@@ -132,8 +132,9 @@ def places(point):
 
 def main():
     if len(sys.argv) > 1:
-        for _, place in places(int(sys.argv[1])):
-            print(place)
+        point = int(sys.argv[1])
+        for crate, place in places(point):
+            print(f"{crate}: {place}" if point in (2, 5) else place)
         return
     for point in range(1, 9):
         counted = collections.Counter(crate for crate, _ in places(point))
