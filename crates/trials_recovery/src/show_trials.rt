@@ -11,8 +11,9 @@ use std::test::Fail;
 use store::WriteStore;
 
 // Lays a row of blocks into the bytes of an image of five stations, and loses stations 1 and 4.
-fn lay_image(row: &[Block; 28], bytes: &mut [u8; 970]) -> Result<(), Fail> {
-    bytes[..10].copy_from_slice(&[1, 0, 0, 3, 0xC5, 5, 0, 0, 0, 0]);
+fn lay_image(row: &[Block; 28], bytes: &mut [u8]) -> Result<(), Fail> {
+    let header = bytes.first_chunk_mut().ok_or("no header")?;
+    *header = [1, 0, 0, 3, 0xC5, 5, 0, 0, 0, 0];
     check_image(bytes)?;
     let mut image = Image::make(bytes);
     for (p, block) in row.iter().take(15).enumerate() {
