@@ -1,10 +1,10 @@
 -- What an audit finds: the first broken rule, neighbourhoods before diagonals, or none.
-use Rattle.std.specs.Prelude.{◌≡◌, ℕ, ◌<◌, Bool, ◌≢◌, List, ◌++◌, Some, None, Ok, Err, codes, decimal, Result}
+use Rattle.std.specs.Prelude.{◌≡◌, ℕ, ◌<◌, ◌≢◌, List, ◌++◌, Some, None, Ok, Err, codes, decimal, Result}
 use Rattle.kinds.specs.Group.{Group}
 use Rattle.code.specs.Rules.{Blocks, neighbourhood, diagonal, Codeword}
 use Rattle.faults.specs.declared.faults.Fault.{Fault}
 use Rattle.faults.specs.declared.faults.Fault.TheVariants.{AbsentAtAudit}
-use Rattle.store.specs.Meaning.{first}
+use Rattle.store.specs.Meaning.{Meaning, first}
 use Rattle.audit.specs.declared.audits.Verdict.{Verdict}
 use Rattle.audit.specs.declared.audits.Verdict.TheVariants.{Sound, BrokenNeighbourhood, BrokenDiagonal}
 
@@ -20,10 +20,10 @@ Found G n f (BrokenNeighbourhood h) = (h < n) × FirstBroken G.none (neighbourho
 Found G n f (BrokenDiagonal m) =
     (m < n) × ((h : ℕ) → h < n → neighbourhood G n f h ≡ G.none) × FirstBroken G.none (diagonal G n f) m
 
--- of a book or store of which some stations are absent
-abbrev pub Audited : {B : Type 0} → Group B → ℕ → (ℕ → Bool) → Blocks B → Result Verdict Fault → Type 0
-Audited G n absent f (Ok v) = (first absent n ≡ None) × Found G n f v
-Audited G n absent f (Err e) = (s : ℕ) × (first absent n ≡ Some s) × (e ≡ AbsentAtAudit s)
+-- of a store, in which the absent stations are those that are out
+abbrev pub Audited : {B : Type 0} → Group B → Meaning B → Result Verdict Fault → Type 0
+Audited G m (Ok v) = (first m.out m.size ≡ None) × Found G m.size m.block v
+Audited G m (Err e) = (s : ℕ) × (first m.out m.size ≡ Some s) × (e ≡ AbsentAtAudit s)
 
 -- "sound", or "broken" with S for a neighbourhood or D for a diagonal, and the rule's number
 abbrev pub verdict_text : Verdict → List ℕ

@@ -1,7 +1,8 @@
 // The audit of a store: the first broken rule, neighbourhoods before diagonals, each in rising order.
 ghost use Rattle.std.specs.Prelude.{◌≡◌, Some};
 ghost use Rattle.audit.specs.Audits.{Audited, Found, verdict_text};
-ghost use Rattle.store.specs.Meaning.{AllIn, absent_of, first};
+ghost use Rattle.store.specs.Meaning.{AllIn, first};
+ghost use Rattle.store.specs.Standing.{beside};
 
 use code::Marks;
 use faults::Fault;
@@ -73,14 +74,14 @@ fn first_broken<S: ReadStore>(store: &S) -> Verdict
 
 // The audit where the stations in `also` count as absent too. Refused by 12 b, with the smallest absent station.
 pub fn audit_beside<S: ReadStore>(store: &S, also: Marks) -> Result<Verdict, Fault>
-    ensures { Audited S.Block.group (S.means store.now).size (absent_of (S.means store.now) also.bits) (S.means store.now).block result }
+    ensures { Audited S.Block.group (beside (S.means store.now) also.bits) result }
 {
     audit(&Beside { store, also })
 }
 
 // The audit of a store. Refused by 12 b, with the smallest station that is out.
 pub fn audit<S: ReadStore>(store: &S) -> Result<Verdict, Fault>
-    ensures { Audited S.Block.group (S.means store.now).size (S.means store.now).out (S.means store.now).block result }
+    ensures { Audited S.Block.group (S.means store.now) result }
 {
     match first_absent(store) {
         Some(s) => Err(Fault::AbsentAtAudit(s)),

@@ -2,10 +2,9 @@
 ghost use Rattle.std.specs.Prelude.{◌≡◌, true, false, length, is_ok};
 ghost use Rattle.audit.specs.Audits.{Audited};
 ghost use Rattle.book.specs.Books.{state_of};
-ghost use Rattle.recovery.specs.Recovery.{recover_answer};
+ghost use Rattle.recovery.specs.Recovery.{recover_answer, RecoveredFrom};
 ghost use Rattle.state.specs.Calls.{read_answer};
-ghost use Rattle.state.specs.States.{absent};
-ghost use Rattle.code.specs.Rebuilt.{Recovered};
+ghost use Rattle.state.specs.States.{seen};
 
 use crate::books::Book;
 use audit::{Verdict, audit};
@@ -23,8 +22,8 @@ impl<S: WriteStore> Book<S> {
         work: &mut [S::Block],
         into: &mut S::Block,
     ) -> Result<(), Fault>
-        ensures answer { result ≡ recover_answer (S.means self.now.store).size (absent (state_of S.means self.now)) (length work.old) a b }
-        ensures block { is_ok result ≡ true → Recovered S.Block.group (S.means self.now.store).size (absent (state_of S.means self.now)) (S.means self.now.store).block a b into.new }
+        ensures answer { result ≡ recover_answer (seen (state_of S.means self.now)) (length work.old) a b }
+        ensures block { is_ok result ≡ true → RecoveredFrom S.Block.group (seen (state_of S.means self.now)) a b into.new }
         ensures into { is_ok result ≡ false → into.new ≡ into.old }
         ensures work { is_ok result ≡ false → work.new ≡ work.old }
     {
@@ -40,7 +39,7 @@ impl<S: WriteStore> Book<S> {
         into: &mut S::Block,
     ) -> Result<(), Fault>
         ensures answer { result ≡ read_answer (state_of S.means self.now) (length work.old) a b }
-        ensures block { is_ok result ≡ true → Recovered S.Block.group (S.means self.now.store).size (absent (state_of S.means self.now)) (S.means self.now.store).block a b into.new }
+        ensures block { is_ok result ≡ true → RecoveredFrom S.Block.group (seen (state_of S.means self.now)) a b into.new }
         ensures into { is_ok result ≡ false → into.new ≡ into.old }
         ensures work { is_ok result ≡ false → work.new ≡ work.old }
     {
@@ -50,7 +49,7 @@ impl<S: WriteStore> Book<S> {
 
     // The first broken rule, or sound. Refused by 12 b with the smallest absent station.
     pub fn audit(&self) -> Result<Verdict, Fault>
-        ensures { Audited S.Block.group (S.means self.now.store).size (absent (state_of S.means self.now)) (S.means self.now.store).block result }
+        ensures { Audited S.Block.group (seen (state_of S.means self.now)) result }
     {
         audit(&self.standing())
     }

@@ -1,7 +1,8 @@
 // Writes: a data pair takes a new block, and the check pairs of its pattern follow.
 ghost use Rattle.std.specs.Prelude.{◌≡◌, ◌+◌, ◌*◌, ◌<◌, ◌≤◌, max, false, length, is_ok};
 ghost use Rattle.book.specs.Books.{state_of};
-ghost use Rattle.state.specs.Additions.{spot, row_part, Added, Spread};
+ghost use Rattle.recovery.specs.Patterns.{spot};
+ghost use Rattle.state.specs.Additions.{row_part, Added, Spread};
 ghost use Rattle.state.specs.Calls.{write_answer, Wrote};
 ghost use Rattle.store.specs.Meaning.{After};
 

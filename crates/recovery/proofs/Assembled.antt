@@ -1,6 +1,6 @@
 -- The rows that a rebuild lays are those of the codeword.
-use Rattle.std.proofs.Common.{◌≡◌, ℕ, suc, ◌+◌, ◌-◌, ◌%◌, ◌<◌, ◌≤◌, Bool, false, ◌≢◌, List, length, get_or, set, sym, ap, ◌∙◌, subst, ap₂, inl, inr, ◌++◌, arith, length-set}
-use Rattle.std.proofs.lemmas.List.{get_or-set_same, get_or-set_other, get_or_append_left, get_or-append-add}
+use Rattle.std.proofs.Common.{◌≡◌, ℕ, suc, ◌+◌, ◌-◌, ◌%◌, ◌<◌, ◌≤◌, Bool, false, ◌≢◌, List, length, take, drop, get_or, set, sym, ap, ◌∙◌, subst, ap₂, inl, inr, ◌++◌, arith, length-set}
+use Rattle.std.proofs.lemmas.List.{get_or-set_same, get_or-set_other, get_or-take, get_or-drop, get_or_append_left, get_or-append-add}
 use Rattle.std.proofs.lemmas.Bool.{cases_eq, both_ways}
 use Rattle.std.proofs.lemmas.Bool.Decides.{nat_tests}
 use Rattle.kinds.specs.Group.{Group}
@@ -13,9 +13,10 @@ use Rattle.code.proofs.Rows.{ordered, of_swap, neighbourhood_cong, diagonal_cong
 use Rattle.code.proofs.Stations.{walk_of, walk_at}
 use Rattle.code.proofs.Sums.{sum_cong}
 use Rattle.code.proofs.Walk.{Walk, far}
-use Rattle.store.specs.Standing.{without}
+use Rattle.store.specs.Meaning.{Meaning}
+use Rattle.store.specs.Standing.{standing}
 use Rattle.recovery.specs.Recovery.{Two, Rows}
-use Rattle.recovery.specs.Work.{station, block_at, gathered, all_gathered, first_closed, second_closed, RowsOf}
+use Rattle.recovery.specs.Work.{station, block_at, gathered, all_gathered, first_closed, second_closed}
 
 -- a row with two blocks laid: what is at a place
 pub laid_twice : {B : Type 0} (row : List B) (p q k : ℕ) (x y d z : B) → p < length row → q < length row → p ≢ q
@@ -33,20 +34,29 @@ pub along : (P : ℕ → ℕ → ℕ → Type 0) (n i j n' i' j' : ℕ) → n �
 along P n i j n' i' j' en ei ej h = subst (λ n. P n i' j') en (subst (λ i. P n i j') ei (subst (P n i) ej h))
 
 -- two rows at the front of an area
-pub joined : {B : Type 0} (G : Group B) (n : ℕ) (absent : ℕ → Bool) (f : Blocks B) (x : Pair) (first second rest : List B) → length first ≡ n → length second ≡ n
-    → RowsOf G n absent f x first second → Rows G n absent f x (first ++ (second ++ rest))
-joined G n absent f x first second rest lf ls r = record {
+pub joined : {B : Type 0} (G : Group B) (m : Meaning B) (x : Pair) (first second rest : List B) → length first ≡ m.size → length second ≡ m.size
+    → Rows G m x first second → Rows G m x (take m.size (first ++ (second ++ rest))) (drop m.size (first ++ (second ++ rest)))
+joined G m x first second rest lf ls r = record {
   word = r.word;
   code = r.code;
   agrees = r.agrees;
-  smaller = λ k lk. get_or_append_left first (second ++ rest) G.none k (omega arith) ∙ r.smaller k lk;
-  larger = λ k lk. ap (λ p. get_or (first ++ (second ++ rest)) (p + k) G.none) (sym lf) ∙ get_or-append-add first (second ++ rest) k G.none ∙ get_or_append_left second rest G.none k (omega arith) ∙ r.larger k lk;
+  smaller = λ k lk. get_or-take m.size (first ++ (second ++ rest)) k G.none lk ∙ get_or_append_left first (second ++ rest) G.none k (omega arith) ∙ r.smaller k lk;
+  larger = λ k lk. get_or-drop m.size (first ++ (second ++ rest)) k G.none ∙ ap (λ p. get_or (first ++ (second ++ rest)) (p + k) G.none) (sym lf) ∙ get_or-append-add first (second ++ rest) k G.none ∙ get_or_append_left second rest G.none k (omega arith) ∙ r.larger k lk;
 }
 
-module _ {B : Type 0} (G : Group B) (n : ℕ) (prime : OddPrime n) (absent : ℕ → Bool) (pair : Pair) (two : Two absent n pair) (f : Blocks B) where
+module _ {B : Type 0} (G : Group B) (m : Meaning B) (prime : OddPrime m.size) (pair : Pair) (two : Two m pair) where
   open G use {none, sum as ◌⊕◌}
 
   infixl 60 ◌⊕◌
+  abbrev n : ℕ
+  n = m.size
+
+  abbrev absent : ℕ → Bool
+  absent = m.out
+
+  abbrev f : Blocks B
+  f = m.block
+
   abbrev i : ℕ
   i = pair.smaller
 
@@ -85,7 +95,7 @@ module _ {B : Type 0} (G : Group B) (n : ℕ) (prime : OddPrime n) (absent : ℕ
   )
 
   -- what is left without the absent stations
-  left : (a b : ℕ) → a < n → b < n → without G absent f a b ≡ kept G i j f a b
+  left : (a b : ℕ) → a < n → b < n → standing G m a b ≡ kept G i j f a b
   left a b la lb = grind (arith, nat_tests, two.others a la, two.others b lb, stands a, stands b)
 
   abbrev N : ℕ → B
@@ -94,19 +104,19 @@ module _ {B : Type 0} (G : Group B) (n : ℕ) (prime : OddPrime n) (absent : ℕ
   abbrev D : ℕ → B
   D = across G n i j odd li lj ij w f
 
-  near_is : (k : ℕ) → k < n → neighbourhood G n (without G absent f) k ≡ N k
+  near_is : (k : ℕ) → k < n → neighbourhood G n (standing G m) k ≡ N k
   unfolding near
   near_is k lk =
-      neighbourhood_cong G n (without G absent f) (kept G i j f) k (λ h lh _. ordered (λ a b. without G absent f a b ≡ kept G i j f a b) k h (left k h lk lh) (left h k lh lk))
+      neighbourhood_cong G n (standing G m) (kept G i j f) k (λ h lh _. ordered (λ a b. standing G m a b ≡ kept G i j f a b) k h (left k h lk lh) (left h k lh lk))
 
-  across_is : (k : ℕ) → diagonal G n (without G absent f) ((i + k) % n) ≡ D k
+  across_is : (k : ℕ) → diagonal G n (standing G m) ((i + k) % n) ≡ D k
   unfolding across
-  across_is k = diagonal_cong G n (without G absent f) (kept G i j f) ((i + k) % n) (λ a b la lb. left a b la (omega arith))
+  across_is k = diagonal_cong G n (standing G m) (kept G i j f) ((i + k) % n) (λ a b la lb. left a b la (omega arith))
 
   -- the steps of a rebuild: the sums are laid, the walk gives the drift, and then the rows of both are opened and closed
   module _ (near across drift open_first open_second first second : List B) (x : B)
-      (near_laid : (k : ℕ) → k < n → block_at G near k ≡ neighbourhood G n (without G absent f) k)
-      (across_laid : (k : ℕ) → k < n → block_at G across k ≡ diagonal G n (without G absent f) ((i + k) % n))
+      (near_laid : (k : ℕ) → k < n → block_at G near k ≡ neighbourhood G n (standing G m) k)
+      (across_laid : (k : ℕ) → k < n → block_at G across k ≡ diagonal G n (standing G m) ((i + k) % n))
       (walked : (s : ℕ) → s + 2 < n → block_at G drift (station n i j (s + 2)) ≡ gathered G n i j near across s)
       (x_is : x ≡ block_at G across j ⊕ all_gathered G n i j drift)
       (first_opened : (k : ℕ) → k < n → block_at G open_first k ≡ x ⊕ block_at G drift k)
@@ -196,7 +206,7 @@ module _ {B : Type 0} (G : Group B) (n : ℕ) (prime : OddPrime n) (absent : ℕ
         (λ e. between ∙ of_swap g i j ∙ ap (of g j) (sym e)) (λ e. last_j ∙ ap (of g j) (sym e)) (λ d d'. open_j k lk d d' ∙ sym (at_j G n i j odd li lj ij w f k d))
 
     -- the rows are those of a codeword
-    pub assembled : RowsOf G n absent f pair first second
+    pub assembled : Rows G m pair first second
     assembled =
         record {
           word = g;

@@ -1,22 +1,28 @@
 -- A pair's block as stored, from the rest of its diagonal, or from rebuilt rows, is recovered.
-use Rattle.std.proofs.Common.{◌≡◌, ℕ, ◌+◌, ◌*◌, ◌%◌, ◌<◌, min, max, Bool, true, false, ◌||◌, ◌≢◌, ◌⊎◌, List, get_or, sym, ap, ◌∙◌, inl, inr, arith}
+use Rattle.std.proofs.Common.{◌≡◌, ℕ, ◌+◌, ◌%◌, ◌<◌, min, max, Bool, true, false, ◌||◌, ◌≢◌, ◌⊎◌, List, sym, ap, ◌∙◌, inl, inr, arith}
 use Rattle.std.proofs.lemmas.Bool.{cases_eq, both_ways, cond-false, or_parts, or_from}
 use Rattle.std.proofs.lemmas.Bool.Decides.{nat_tests}
 use Rattle.kinds.specs.Group.{Group}
-use Rattle.code.specs.Rebuilt.{absentees, Kept, Recovered}
+use Rattle.code.specs.Rebuilt.{Kept}
 use Rattle.code.specs.Rules.{Blocks, of, diagonal}
 use Rattle.code.specs.declared.places.Pair.{Pair}
 use Rattle.code.proofs.Rest.{rest_stands}
 use Rattle.code.proofs.Rows.{ordered, of_swap}
-use Rattle.store.specs.Standing.{without}
-use Rattle.recovery.specs.Recovery.{Two, Rows, row_place}
+use Rattle.store.specs.Meaning.{Meaning}
+use Rattle.store.specs.Standing.{standing}
+use Rattle.recovery.specs.Recovery.{absent_in, RecoveredFrom, Two, Rows, row_block}
 
--- a place in the rows
-pub row_below : (n : ℕ) (x : Pair) (a b : ℕ) → a < n → b < n → row_place n x a b < 2 * n
-row_below n x a b la lb = grind (arith, nat_tests)
+module _ {B : Type 0} (G : Group B) (m : Meaning B) (a b : ℕ) (la : a < m.size) (lb : b < m.size) (r : B) where
+  abbrev n : ℕ
+  n = m.size
 
-module _ {B : Type 0} (G : Group B) (n : ℕ) (absent : ℕ → Bool) (f : Blocks B) (a b : ℕ) (la : a < n) (lb : b < n) (r : B) where
-  pub stored_recovered : (absent a || absent b) ≡ false → r ≡ of (without G absent f) a b → Recovered G n absent f a b r
+  abbrev absent : ℕ → Bool
+  absent = m.out
+
+  abbrev f : Blocks B
+  f = m.block
+
+  pub stored_recovered : (absent a || absent b) ≡ false → r ≡ of (standing G m) a b → RecoveredFrom G m a b r
   stored_recovered h e =
       let p = or_parts (absent a) (absent b) h in
       let q : (absent (max a b) || absent (min a b)) ≡ false = ordered (λ x y. (absent x || absent y) ≡ false) a b h (or_from (absent b) (absent a) p.1 p.0) in
@@ -31,7 +37,7 @@ module _ {B : Type 0} (G : Group B) (n : ℕ) (absent : ℕ → Bool) (f : Block
     not_kept : Kept absent a b → ⊥
     not_kept k = both_ways (absent a || absent b) (or_from (absent a) (absent b) k.0 k.1) lost
 
-    pub one_recovered : absentees absent n ≢ 2 → r ≡ diagonal G n (without G absent f) ((a + b) % n) → Recovered G n absent f a b r
+    pub one_recovered : absent_in m ≢ 2 → r ≡ diagonal G n (standing G m) ((a + b) % n) → RecoveredFrom G m a b r
     one_recovered d e =
         record {
           stored = λ k. absurd (not_kept k);
@@ -39,22 +45,19 @@ module _ {B : Type 0} (G : Group B) (n : ℕ) (absent : ℕ → Bool) (f : Block
           two = λ _ c. absurd (d c);
         }
 
-    module _ (x : Pair) (two : Two absent n x) (area : List B) (rows : Rows G n absent f x area) where
-      pub in_row : get_or area (row_place n x a b) G.none ≡ of rows.word a b
+    module _ (x : Pair) (two : Two m x) (first second : List B) (rows : Rows G m x first second) where
+      pub in_row : row_block G.none x first second a b ≡ of rows.word a b
       in_row = go (cases_eq a x.smaller) (cases_eq a x.larger) (cases_eq b x.smaller) (cases_eq b x.larger)
         where
-          at : (p : ℕ) → row_place n x a b ≡ p → get_or area (row_place n x a b) G.none ≡ get_or area p G.none
-          at p e = ap (λ q. get_or area q G.none) e
-
           go : (a ≡ x.smaller) ⊎ (a ≢ x.smaller) → (a ≡ x.larger) ⊎ (a ≢ x.larger) → (b ≡ x.smaller) ⊎ (b ≢ x.smaller) → (b ≡ x.larger) ⊎ (b ≢ x.larger)
-              → get_or area (row_place n x a b) G.none ≡ of rows.word a b
-          go (inl e) _ _ _ = at b (grind (arith, nat_tests)) ∙ rows.smaller b lb ∙ ap (λ s. of rows.word s b) (sym e)
-          go (inr d) (inl e) _ _ = at (n + b) (grind (arith, nat_tests)) ∙ rows.larger b lb ∙ ap (λ s. of rows.word s b) (sym e)
-          go (inr d) (inr d') (inl e) _ = at a (grind (arith, nat_tests)) ∙ rows.smaller a la ∙ of_swap rows.word x.smaller a ∙ ap (of rows.word a) (sym e)
-          go (inr d) (inr d') (inr d'') (inl e) = at (n + a) (grind (arith, nat_tests)) ∙ rows.larger a la ∙ of_swap rows.word x.larger a ∙ ap (of rows.word a) (sym e)
+              → row_block G.none x first second a b ≡ of rows.word a b
+          go (inl e) _ _ _ = grind (arith, nat_tests) ∙ rows.smaller b lb ∙ ap (λ s. of rows.word s b) (sym e)
+          go (inr d) (inl e) _ _ = grind (arith, nat_tests) ∙ rows.larger b lb ∙ ap (λ s. of rows.word s b) (sym e)
+          go (inr d) (inr d') (inl e) _ = grind (arith, nat_tests) ∙ rows.smaller a la ∙ of_swap rows.word x.smaller a ∙ ap (of rows.word a) (sym e)
+          go (inr d) (inr d') (inr d'') (inl e) = grind (arith, nat_tests) ∙ rows.larger a la ∙ of_swap rows.word x.larger a ∙ ap (of rows.word a) (sym e)
           go (inr d) (inr d') (inr e) (inr e') = absurd (not_kept (two.others a la d d', two.others b lb e e'))
 
-      pub two_recovered : absentees absent n ≡ 2 → r ≡ get_or area (row_place n x a b) G.none → Recovered G n absent f a b r
+      pub two_recovered : absent_in m ≡ 2 → r ≡ row_block G.none x first second a b → RecoveredFrom G m a b r
       two_recovered c e =
           record {
             stored = λ k. absurd (not_kept k);

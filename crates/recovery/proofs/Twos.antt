@@ -1,12 +1,17 @@
 -- The absent stations, found in rising order and counted.
 use Rattle.std.proofs.Common.{◌≡◌, ℕ, ◌+◌, ◌<◌, ◌≤◌, Bool, true, false, Some, None, Option, ap, ◌∙◌, inl, inr, arith}
 use Rattle.std.proofs.lemmas.Bool.{cases_eq, cases_lt, both_ways}
-use Rattle.code.specs.Rebuilt.{absentees}
 use Rattle.code.proofs.Rebuild.{Pair as Lost, two_absent}
-use Rattle.recovery.specs.Recovery.{Two}
-use Rattle.store.specs.Meaning.{Next}
+use Rattle.recovery.specs.Recovery.{absent_in, Two}
+use Rattle.store.specs.Meaning.{Meaning, Next}
 
-module _ (absent : ℕ → Bool) (n : ℕ) (count : absentees absent n ≡ 2) where
+module _ {B : Type 0} (m : Meaning B) (count : absent_in m ≡ 2) where
+  abbrev n : ℕ
+  n = m.size
+
+  abbrev absent : ℕ → Bool
+  absent = m.out
+
   -- the first absent station from p on is s, where s is absent and no other station from p up to s is
   next_is : (p s : ℕ) (r : Option ℕ) → Next absent n p r → p ≤ s → s < n → absent s ≡ true → ((k : ℕ) → p ≤ k → k < s → absent k ≡ false) → r ≡ Some s
   next_is p s None h ls sn lost before = absurd (both_ways (absent s) (h s ls sn) lost)
@@ -33,7 +38,7 @@ module _ (absent : ℕ → Bool) (n : ℕ) (count : absentees absent n ≡ 2) wh
       let lj : lost.j < n = lost.below in
       next_is (i + 1) lost.j r h (omega arith) lj lost.lost_j (λ k p l. lost.others k (omega arith) (omega arith) (omega arith))
 
-  pub both_found : (i j : ℕ) → i ≡ lost.i → j ≡ lost.j → Two absent n (record { larger = j; smaller = i })
+  pub both_found : (i j : ℕ) → i ≡ lost.i → j ≡ lost.j → Two m (record { larger = j; smaller = i })
   both_found i j e d =
       let lt : lost.i < lost.j = lost.before in
       let lj : lost.j < n = lost.below in

@@ -1,11 +1,8 @@
 -- Rows of n blocks, while the stations i and j are rebuilt, i before j, of n stations: the rows of i and of j, first and
 -- second; near, the neighbourhood sums; across, the diagonal sums; and drift, how far the row of i changes along the
 -- walk i, j, j + (j - i), .. round the stations.
-use Rattle.std.specs.Prelude.{◌≡◌, ℕ, ◌+◌, ◌-◌, ◌*◌, ◌%◌, ◌<◌, Bool, cond, List, ◌==◌, slice_index_or, slice_set}
+use Rattle.std.specs.Prelude.{ℕ, ◌+◌, ◌-◌, ◌*◌, ◌%◌, cond, List, ◌==◌, slice_index_or, slice_set}
 use Rattle.kinds.specs.Group.{Group, sum_to}
-use Rattle.code.specs.Rebuilt.{Kept}
-use Rattle.code.specs.Rules.{Blocks, of, Codeword, Agree}
-use Rattle.code.specs.declared.places.Pair.{Pair}
 
 -- where the walk is at time t
 abbrev pub station : ℕ → ℕ → ℕ → ℕ → ℕ
@@ -32,11 +29,3 @@ module _ {B : Type 0} (G : Group B) where
   abbrev pub second_closed : ℕ → ℕ → ℕ → List B → List B → List B → List B
   second_closed n i j across first second =
       slice_set (slice_set second i (block_at across j)) j (G.sum (block_at across (station n i j 2)) (block_at first (station n i j 2)))
-
-  -- the rows of two stations in a codeword that agrees with f at each pair of stations that stand
-  pub record RowsOf (n : ℕ) (absent : ℕ → Bool) (f : Blocks B) (x : Pair) (first second : List B) : Type 0 where
-    pub word : Blocks B
-    pub code : Codeword G n word
-    pub agrees : Agree n (Kept absent) word f
-    pub smaller : (k : ℕ) → k < n → block_at first k ≡ of word x.smaller k
-    pub larger : (k : ℕ) → k < n → block_at second k ≡ of word x.larger k

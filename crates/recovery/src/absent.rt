@@ -1,7 +1,6 @@
 // The absent stations of a store: those that are out.
 ghost use Rattle.std.specs.Prelude.{◌≡◌, ◌≢◌, MatchOption};
-ghost use Rattle.code.specs.Rebuilt.{absentees};
-ghost use Rattle.recovery.specs.Recovery.{AbsentMarks, Two};
+ghost use Rattle.recovery.specs.Recovery.{AbsentMarks, absent_in, Two};
 
 use code::{Marks, Pair};
 use store::{ReadStore, next_out};
@@ -20,7 +19,7 @@ pub fn absent_marks<S: ReadStore>(store: &S) -> Marks
 
 // How many stations are absent.
 pub fn count_absent<S: ReadStore>(store: &S) -> u8
-    ensures { result ≡ absentees (S.means store.now).out (S.means store.now).size }
+    ensures { result ≡ absent_in (S.means store.now) }
 {
     (0..store.size().number())
         .filter(|&s| store.is_out(s))
@@ -29,7 +28,7 @@ pub fn count_absent<S: ReadStore>(store: &S) -> u8
 
 // The two absent stations, if there are just two.
 pub(crate) fn two_absent<S: ReadStore>(store: &S) -> Option<Pair>
-    ensures { MatchOption result (absentees (S.means store.now).out (S.means store.now).size ≢ 2) (λ x. Two (S.means store.now).out (S.means store.now).size x × (absentees (S.means store.now).out (S.means store.now).size ≡ 2)) }
+    ensures { MatchOption result (absent_in (S.means store.now) ≢ 2) (λ x. Two (S.means store.now) x × (absent_in (S.means store.now) ≡ 2)) }
 {
     if count_absent(store) != 2 {
         return None;

@@ -1,9 +1,9 @@
 // Patterns: the check pairs that are 1 in the codeword of bits with 1 at one data pair and 0 at every other.
-ghost use Rattle.std.specs.Prelude.{◌≡◌, ℕ, ◌+◌, ◌*◌, ◌<◌, ◌≤◌, max, true, false, ◌&&◌, length, is_ok, nat_le, slice_index_or};
+ghost use Rattle.std.specs.Prelude.{◌≡◌, ℕ, ◌+◌, ◌*◌, ◌<◌, ◌≤◌, max, true, false, length, is_ok, slice_index_or};
 ghost use Rattle.code.specs.Places.{pair_place};
 ghost use Rattle.code.specs.Sizes.{pairs as pair_count};
 ghost use Rattle.recovery.specs.Patterns.{impulse, pattern_answer, Pattern};
-ghost use Rattle.recovery.specs.Recovery.{row_place};
+ghost use Rattle.recovery.specs.Recovery.{row_bit};
 
 use crate::admits::admit_data;
 use crate::areas::admit_area;
@@ -77,7 +77,7 @@ fn may_lay(size: Size, work: usize, into: usize, a: u8, b: u8) -> Result<(), Fau
 // The bits of the check pairs, from the rows of the check stations, and 0 at the data pairs, in place order.
 fn lay_bits(rows: &RowPair<'_, bool>, into: &mut [bool])
     requires long { pair_count rows.now.size.number ≤ length into.old }
-    ensures laid { (x y : ℕ) → x < rows.now.size.number → y ≤ x → slice_index_or into.new (pair_place x y) false ≡ (nat_le rows.now.size.number (x + 2) && slice_index_or rows.now.area.now (row_place rows.now.size.number rows.now.two x y) false) }
+    ensures laid { (x y : ℕ) → x < rows.now.size.number → y ≤ x → slice_index_or into.new (pair_place x y) false ≡ row_bit rows.now.size.number rows.now.two rows.now.first.now rows.now.second.now x y }
     ensures later { (p : ℕ) → pair_count rows.now.size.number ≤ p → slice_index_or into.new p false ≡ slice_index_or into.old p false }
 {
     let bits = &mut into[..rows.size.pairs()];
@@ -102,12 +102,7 @@ fn lay_pattern(size: Size, a: u8, b: u8, work: &mut [bool], into: &mut [bool])
         smaller: n - 2,
     };
     rebuild(&store, two, work);
-    let rows = RowPair {
-        size,
-        two,
-        area: work,
-    };
-    lay_bits(&rows, into);
+    lay_bits(&RowPair::new(size, two, work), into);
 }
 
 // The pattern of the data pair of two stations, in the first bits of `into`, one for each pair in place order.

@@ -1,7 +1,6 @@
 // Two absent stations rebuilt in one pass: the rows of both, in a work area.
-ghost use Rattle.std.specs.Prelude.{◌≡◌, ℕ, ◌*◌, ◌<◌, ◌≤◌, length, slice_index_or};
+ghost use Rattle.std.specs.Prelude.{◌≡◌, ℕ, ◌*◌, ◌<◌, ◌≤◌, length, take, drop, slice_index_or};
 ghost use Rattle.recovery.specs.Recovery.{Two, Rows, RebuiltTwo};
-ghost use Rattle.recovery.specs.Work.{RowsOf};
 
 use crate::absent::two_absent;
 use crate::areas::admit_area;
@@ -34,13 +33,13 @@ fn rebuild_rows<S: ReadStore>(
     across: &mut [S::Block],
     drift: &mut [S::Block],
 )
-    requires two { Two (S.means store.now).out (S.means store.now).size pair }
+    requires two { Two (S.means store.now) pair }
     requires first { length first.old ≡ (S.means store.now).size }
     requires second { length second.old ≡ (S.means store.now).size }
     requires near { length near.old ≡ (S.means store.now).size }
     requires across { length across.old ≡ (S.means store.now).size }
     requires drift { length drift.old ≡ (S.means store.now).size }
-    ensures { RowsOf S.Block.group (S.means store.now).size (S.means store.now).out (S.means store.now).block pair first.new second.new }
+    ensures { Rows S.Block.group (S.means store.now) pair first.new second.new }
 {
     let size = store.size();
     let n = size.number();
@@ -59,9 +58,9 @@ fn rebuild_rows<S: ReadStore>(
 
 // The rows of two absent stations.
 pub(crate) fn rebuild<S: ReadStore>(store: &S, pair: Pair, work: &mut [S::Block])
-    requires two { Two (S.means store.now).out (S.means store.now).size pair }
+    requires two { Two (S.means store.now) pair }
     requires long { 8 * (S.means store.now).size ≤ length work.old }
-    ensures { Rows S.Block.group (S.means store.now).size (S.means store.now).out (S.means store.now).block pair work.new }
+    ensures { Rows S.Block.group (S.means store.now) pair (take (S.means store.now).size work.new) (drop (S.means store.now).size work.new) }
 {
     let n = usize::from(store.size().number());
     let (first, rest) = work.split_at_mut(n);
@@ -75,7 +74,7 @@ pub(crate) fn rebuild<S: ReadStore>(store: &S, pair: Pair, work: &mut [S::Block]
 // If just two stations are absent, the pair of them, and their rows at the start of the work area, the smaller first.
 // Refused by 3 b if the area is under 8 n blocks. Where it is refused or gives none, the area is as it was.
 pub fn rebuild_two<S: ReadStore>(store: &S, work: &mut [S::Block]) -> Result<Option<Pair>, Fault>
-    ensures { RebuiltTwo S.Block.group (S.means store.now).size (S.means store.now).out (S.means store.now).block work.old result work.new }
+    ensures { RebuiltTwo S.Block.group (S.means store.now) work.old result work.new }
 {
     admit_area(store.size(), work.len())?;
     let two = two_absent(store);

@@ -1,8 +1,8 @@
 // Recovery of a pair's block from the others, over any store for reading.
 ghost use Rattle.std.specs.Prelude.{◌≡◌, ◌*◌, ◌<◌, ◌≤◌, true, false, ◌||◌, length, is_ok};
-ghost use Rattle.code.specs.Rebuilt.{Recovered};
-ghost use Rattle.recovery.specs.Recovery.{recover_answer};
-ghost use Rattle.store.specs.Meaning.{absent_of};
+ghost use Rattle.recovery.specs.Recovery.{recover_answer, RecoveredFrom};
+ghost use Rattle.store.specs.Meaning.{is_out_of};
+ghost use Rattle.store.specs.Standing.{beside};
 
 use crate::absent::{count_absent, two_absent};
 use crate::areas::admit_area;
@@ -16,16 +16,14 @@ use store::{Beside, ReadStore};
 
 // Whether a station of the pair is absent.
 fn is_lost<S: ReadStore>(store: &S, a: u8, b: u8) -> bool
-    requires first { a < (S.means store.now).size }
-    requires second { b < (S.means store.now).size }
-    ensures { result ≡ ((S.means store.now).out a || (S.means store.now).out b) }
+    ensures { result ≡ (is_out_of (S.means store.now) a || is_out_of (S.means store.now) b) }
 {
     store.is_out(a) || store.is_out(b)
 }
 
 // The checks before a recovery.
 fn may_recover<S: ReadStore>(store: &S, len: usize, a: u8, b: u8) -> Result<(), Fault>
-    ensures { result ≡ recover_answer (S.means store.now).size (S.means store.now).out len a b }
+    ensures { result ≡ recover_answer (S.means store.now) len a b }
 {
     let size = store.size();
     admit_area(size, len)?;
@@ -43,7 +41,7 @@ fn recovered_block<S: ReadStore>(store: &S, a: u8, b: u8, work: &mut [S::Block])
     requires first { a < (S.means store.now).size }
     requires second { b < (S.means store.now).size }
     requires long { 8 * (S.means store.now).size ≤ length work.old }
-    ensures { Recovered S.Block.group (S.means store.now).size (S.means store.now).out (S.means store.now).block a b result }
+    ensures { RecoveredFrom S.Block.group (S.means store.now) a b result }
 {
     if !is_lost(store, a, b) {
         return kept_block(store, a, b);
@@ -53,12 +51,7 @@ fn recovered_block<S: ReadStore>(store: &S, a: u8, b: u8, work: &mut [S::Block])
     match two_absent(store) {
         Some(two) => {
             rebuild(store, two, work);
-            let rows = RowPair {
-                size,
-                two,
-                area: work,
-            };
-            rows.block(a, b)
+            RowPair::new(size, two, work).block(a, b)
         }
         None => diagonal_sum(store, (a + b) % n),
     }
@@ -74,8 +67,8 @@ pub fn recover<S: ReadStore>(
     work: &mut [S::Block],
     into: &mut S::Block,
 ) -> Result<(), Fault>
-    ensures answer { result ≡ recover_answer (S.means store.now).size (S.means store.now).out (length work.old) a b }
-    ensures block { is_ok result ≡ true → Recovered S.Block.group (S.means store.now).size (S.means store.now).out (S.means store.now).block a b into.new }
+    ensures answer { result ≡ recover_answer (S.means store.now) (length work.old) a b }
+    ensures block { is_ok result ≡ true → RecoveredFrom S.Block.group (S.means store.now) a b into.new }
     ensures into { is_ok result ≡ false → into.new ≡ into.old }
     ensures work { is_ok result ≡ false → work.new ≡ work.old }
 {
@@ -93,8 +86,8 @@ pub fn recover_beside<S: ReadStore>(
     work: &mut [S::Block],
     into: &mut S::Block,
 ) -> Result<(), Fault>
-    ensures answer { result ≡ recover_answer (S.means store.now).size (absent_of (S.means store.now) also.bits) (length work.old) a b }
-    ensures block { is_ok result ≡ true → Recovered S.Block.group (S.means store.now).size (absent_of (S.means store.now) also.bits) (S.means store.now).block a b into.new }
+    ensures answer { result ≡ recover_answer (beside (S.means store.now) also.bits) (length work.old) a b }
+    ensures block { is_ok result ≡ true → RecoveredFrom S.Block.group (beside (S.means store.now) also.bits) a b into.new }
     ensures into { is_ok result ≡ false → into.new ≡ into.old }
     ensures work { is_ok result ≡ false → work.new ≡ work.old }
 {

@@ -1,43 +1,55 @@
 // The rebuilt rows of two stations, read by pair.
-ghost use Rattle.std.specs.Prelude.{◌≡◌, ◌+◌, ◌*◌, ◌<◌, ◌≤◌, false, ◌&&◌, length, nat_le, slice_index_or};
-ghost use Rattle.recovery.specs.Recovery.{row_place};
+ghost use Rattle.std.specs.Prelude.{◌≡◌, ◌*◌, ◌<◌, ◌≤◌, length, take, drop};
+ghost use Rattle.recovery.specs.Recovery.{row_block, row_bit};
 
 use code::{Pair, Size};
 use kinds::BlockKind;
 
-// An area that begins with the rows of two stations, the smaller first.
+// The rows of two stations, the smaller first; the second may be longer than a row.
 #[derive(Drop)]
 pub(crate) struct RowPair<'a, B> {
     pub(crate) size: Size,
-    pub(crate) two: Pair,
-    pub(crate) area: &'a [B],
-    ghost long: { 2 * size.number ≤ length area.now },
+    two: Pair,
+    first: &'a [B],
+    second: &'a [B],
+    ghost first_long: { size.number ≤ length first.now },
+    ghost second_long: { size.number ≤ length second.now },
 }
 
-impl<B: BlockKind> RowPair<'_, B> {
-    // Where the block of a pair with one of the two stations stands.
-    fn place(&self, a: u8, b: u8) -> usize
-        ensures { result ≡ row_place self.now.size.number self.now.two a b }
+impl<'a, B: BlockKind> RowPair<'a, B> {
+    // The rows at the front of an area.
+    pub(crate) fn new(size: Size, two: Pair, area: &'a [B]) -> Self
+        requires { 2 * size.number ≤ length area.now }
+        ensures size { result.size ≡ size }
+        ensures two { result.two ≡ two }
+        ensures first { result.first.now ≡ take size.number area.now }
+        ensures second { result.second.now ≡ drop size.number area.now }
     {
-        let n = usize::from(self.size.number());
-        if a == self.two.smaller {
-            usize::from(b)
-        } else if a == self.two.larger {
-            n + usize::from(b)
-        } else if b == self.two.smaller {
-            usize::from(a)
-        } else {
-            n + usize::from(a)
+        let (first, second) = area.split_at(usize::from(size.number()));
+        RowPair {
+            size,
+            two,
+            first,
+            second,
         }
     }
 
-    // The block there.
+    // The block of a pair with one of the two stations.
     pub(crate) fn block(&self, a: u8, b: u8) -> B
         requires first { a < self.now.size.number }
         requires second { b < self.now.size.number }
-        ensures { result ≡ slice_index_or self.now.area.now (row_place self.now.size.number self.now.two a b) B.group.none }
+        ensures { result ≡ row_block B.group.none self.now.two self.now.first.now self.now.second.now a b }
     {
-        self.area[self.place(a, b)]
+        let Pair { larger, smaller } = self.two;
+        if a == smaller {
+            self.first[usize::from(b)]
+        } else if a == larger {
+            self.second[usize::from(b)]
+        } else if b == smaller {
+            self.first[usize::from(a)]
+        } else {
+            self.second[usize::from(a)]
+        }
     }
 }
 
@@ -46,7 +58,7 @@ impl RowPair<'_, bool> {
     pub(crate) fn bit(&self, pair: Pair) -> bool
         requires first { pair.larger < self.now.size.number }
         requires second { pair.smaller < self.now.size.number }
-        ensures { result ≡ (nat_le self.now.size.number (pair.larger + 2) && slice_index_or self.now.area.now (row_place self.now.size.number self.now.two pair.larger pair.smaller) false) }
+        ensures { result ≡ row_bit self.now.size.number self.now.two self.now.first.now self.now.second.now pair.larger pair.smaller }
     {
         pair.larger + 2 >= self.size.number() && self.block(pair.larger, pair.smaller)
     }

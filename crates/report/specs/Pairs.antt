@@ -3,11 +3,10 @@ use Rattle.std.specs.Prelude.{◌≡◌, ℕ, zero, suc, ◌+◌, ◌*◌, Bool,
 use Rattle.kinds.specs.Bytes.{byte_group}
 use Rattle.kinds.specs.Texts.{hex_text}
 use Rattle.faults.specs.Refusals.{refusal_text}
-use Rattle.code.specs.Rebuilt.{Recovered}
 use Rattle.code.specs.Rules.{of}
 use Rattle.kinds.specs.declared.blocks.Block.{Block}
 use Rattle.faults.specs.declared.faults.Fault.{Fault}
-use Rattle.recovery.specs.Recovery.{recover_answer}
+use Rattle.recovery.specs.Recovery.{recover_answer, RecoveredFrom}
 use Rattle.store.specs.Meaning.{Meaning}
 use Rattle.report.specs.declared.pairs.Content.{Content}
 use Rattle.report.specs.declared.pairs.Content.TheVariants.{Stored, Rebuilt, Lost}
@@ -22,12 +21,12 @@ content_text (Lost f) = refusal_text f
 -- refusal of the recovery
 abbrev pub BlockText : Meaning Block → ℕ → ℕ → Bool → Result (Unit {0}) Fault → List ℕ → Type 0
 BlockText m a b false r text = text ≡ codes "stored " ++ hex_text (of m.block a b).bytes
-BlockText m a b true (Ok _) text = (x : Block) × (Recovered byte_group m.size m.out m.block a b x × (text ≡ codes "rebuilt " ++ hex_text x.bytes))
+BlockText m a b true (Ok _) text = (x : Block) × (RecoveredFrom byte_group m a b x × (text ≡ codes "rebuilt " ++ hex_text x.bytes))
 BlockText m a b true (Err e) text = text ≡ refusal_text e
 
 -- the same, with what recovery answers with a work area of 8 n blocks
 abbrev pub BlockSaid : Meaning Block → ℕ → ℕ → List ℕ → Type 0
-BlockSaid m a b text = BlockText m a b (m.out a || m.out b) (recover_answer m.size m.out (8 * m.size) a b) text
+BlockSaid m a b text = BlockText m a b (m.out a || m.out b) (recover_answer m (8 * m.size) a b) text
 
 -- the line of the pair of a and b
 pub record PairLine (m : Meaning Block) (a b : ℕ) (text : List ℕ) : Type 0 where

@@ -31,7 +31,7 @@ out_text f n = codes "out" ++ or_none (listed f n)
 -- three lines: the size, the stations that are out, and what the audit answers
 pub record Reported {B : Type 0} (G : Group B) (m : Meaning B) (text : List ℕ) : Type 0 where
   pub answer : Result Verdict Fault
-  pub audited : Audited G m.size m.out m.block answer
+  pub audited : Audited G m answer
   pub lines : text ≡ codes "size " ++ (decimal m.size ++ (10 ∷ out_text m.out m.size ++ (10 ∷ audit_text answer ++ (10 ∷ []))))
 
 -- of an image: the report on what it means, then the lines of its pairs

@@ -12,7 +12,8 @@ use Rattle.state.specs.Calls.{too_many, Opened, Filled, FilledNext}
 use Rattle.state.specs.Fillings.{stepped}
 use Rattle.serve.specs.Matches.{Matches, FilledPairs}
 use Rattle.state.specs.States.{State, state, size_of, absent, absent_count, being_filled, filling_at, Sound, SoundAt}
-use Rattle.serve.specs.Tally.{Tally, at_start, turned}
+use Rattle.code.specs.Marks.{turned}
+use Rattle.serve.specs.Tally.{Tally, at_start}
 use Rattle.state.specs.declared.records.Filling.{Filling}
 
 module _ {B : Type 0} (G : Group B) (t : Tally B) (st : State B) (M : Matches G t st) where

@@ -3,7 +3,9 @@ use Rattle.std.proofs.Common.{◌≡◌, ℕ, ◌+◌, ◌*◌, ◌<◌, ◌≤�
 use Rattle.std.proofs.lemmas.Bool.{cases_lt, cases_Bool, both_ways, ltb-true, ltb-false, lt-ltb, and_cases, and_parts, and_from, or_parts, eqb-true, eq-eqb}
 use Rattle.std.proofs.lemmas.Bool.Decides.{nat_tests}
 use Rattle.kinds.specs.Group.{Group}
-use Rattle.code.specs.Rebuilt.{absentees, Kept, Recovered}
+use Rattle.code.specs.Marks.{turned}
+use Rattle.code.specs.Rebuilt.{absentees, Kept}
+use Rattle.recovery.specs.Recovery.{RecoveredFrom}
 use Rattle.code.specs.Rules.{of}
 use Rattle.faults.specs.declared.faults.Fault.{Fault}
 use Rattle.faults.specs.declared.faults.Fault.TheVariants.{TooManyAbsent}
@@ -12,8 +14,8 @@ use Rattle.code.proofs.Settled.{settled}
 use Rattle.state.specs.Calls.{read_answer, write_answer, lose_answer, none_filled, fit_answer, finish_answer, too_many, FilledNext}
 use Rattle.state.specs.Fillings.{next_of, stepped}
 use Rattle.serve.specs.Matches.{Matches}
-use Rattle.state.specs.States.{State, state, size_of, absent, absent_count, being_filled, filling_at}
-use Rattle.serve.specs.Tally.{Tally, DataPair, TooMany, IsRefused, Iff, Holds, Promised, tallied, turned, ended}
+use Rattle.state.specs.States.{State, state, size_of, absent, absent_count, being_filled, filling_at, seen}
+use Rattle.serve.specs.Tally.{Tally, DataPair, TooMany, IsRefused, Iff, Holds, Promised, tallied, ended}
 use Rattle.serve.specs.Turns.{Made}
 use Rattle.serve.specs.declared.turns.Answer.{Answer}
 use Rattle.serve.specs.declared.turns.Answer.TheVariants.{NotMade, Refused, Given, Accepted, Untouched}
@@ -100,7 +102,7 @@ module _ {B : Type 0} (G : Group B) (t : Tally B) (st : State B) (M : Matches G 
   held = (M.word, (M.code, M.last, λ p q lp lq k. M.standing p q lp lq (sym (M.gone p lp) ∙ k.0, sym (M.gone q lq) ∙ k.1)))
 
   -- what is recovered of a data pair is its last write
-  pub last_write_read : (a b : ℕ) (x : B) → DataPair (size_of st) a b → Recovered G (size_of st) (absent st) st.store.block a b x → (Kept (absent st) a b) ⊎ (absent_count st ≤ 2) → x ≡ of t.last a b
+  pub last_write_read : (a b : ℕ) (x : B) → DataPair (size_of st) a b → RecoveredFrom G (seen st) a b x → (Kept (absent st) a b) ⊎ (absent_count st ≤ 2) → x ≡ of t.last a b
   last_write_read a b x d r k =
       let p : a + 2 < size_of st = d.0 in
       let q : b + 2 < size_of st = d.1 in

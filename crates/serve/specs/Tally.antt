@@ -1,8 +1,9 @@
 -- What the accepted calls of a newly opened book come to, and what its client is promised.
-use Rattle.std.specs.Prelude.{◌≡◌, ℕ, ◌+◌, ◌*◌, ◌<◌, ◌≤◌, min, max, Bool, true, false, cond, ◌&&◌, ◌||◌, ◌⊎◌, List, [], ◌∷◌, Some, None, Option, ◌==◌}
+use Rattle.std.specs.Prelude.{◌≡◌, ℕ, ◌+◌, ◌*◌, ◌<◌, ◌≤◌, min, Bool, true, false, cond, ◌||◌, ◌⊎◌, List, [], ◌∷◌, Some, None, Option, ◌==◌}
 use Rattle.kinds.specs.Group.{Group}
 use Rattle.code.specs.Rebuilt.{absentees, Kept}
-use Rattle.code.specs.Rules.{Blocks, of, Codeword, Agree}
+use Rattle.code.specs.Marks.{turned}
+use Rattle.code.specs.Rules.{Blocks, of, changed, Codeword, Agree}
 use Rattle.faults.specs.declared.faults.Fault.{Fault}
 use Rattle.store.specs.Meaning.{Meaning}
 use Rattle.state.specs.Fillings.{stepped}
@@ -24,10 +25,6 @@ pub record Tally (B : Type 0) : Type 0 where
 abbrev pub at_start : {B : Type 0} → Group B → Tally B
 at_start G = record { absent = λ _. false; filling = None; last = λ _ _. G.none }
 
--- s absent, or standing, as b says
-abbrev pub turned : (ℕ → Bool) → ℕ → Bool → ℕ → Bool
-turned f s b t = cond (t == s) b (f t)
-
 -- no filling, if it was that of s
 abbrev pub ended : ℕ → Option Filling → Option Filling
 ended s None = None
@@ -35,7 +32,7 @@ ended s (Some f) = cond (s == f.station) None (Some f)
 
 -- the tally after a write of x to the pair of a and b
 abbrev pub written : {B : Type 0} → Tally B → ℕ → ℕ → B → Tally B
-written t a b x = record { absent = t.absent; filling = t.filling; last = λ p q. cond (p == max a b && q == min a b) x (t.last p q) }
+written t a b x = record { absent = t.absent; filling = t.filling; last = changed t.last a b x }
 
 -- and after the loss of s
 abbrev pub lost : {B : Type 0} → Tally B → ℕ → Tally B

@@ -1,12 +1,12 @@
 -- What a call does to a book, by its answer: the exact answers and effects of the calls, gathered.
 use Rattle.std.specs.Prelude.{◌≡◌, ℕ, min, true, false, None, Ok, Err}
 use Rattle.kinds.specs.Group.{Group}
-use Rattle.code.specs.Rebuilt.{Recovered}
+use Rattle.recovery.specs.Recovery.{RecoveredFrom}
 use Rattle.faults.specs.declared.faults.Fault.{Fault}
 use Rattle.store.specs.Meaning.{Remarked}
 use Rattle.state.specs.Calls.{read_answer, write_answer, lose_answer, fit_answer, fill_answer, finish_answer, Wrote, FilledNext}
 use Rattle.state.specs.Fillings.{stepped}
-use Rattle.state.specs.States.{State, size_of, absent, being_filled, filling_at, Sound}
+use Rattle.state.specs.States.{State, size_of, seen, being_filled, filling_at, Sound}
 use Rattle.serve.specs.declared.turns.Answer.{Answer}
 use Rattle.serve.specs.declared.turns.Answer.TheVariants.{NotMade, Refused, Given, Accepted, Untouched}
 use Rattle.serve.specs.declared.turns.Call.{Call}
@@ -27,7 +27,7 @@ Made G most st (Write a b x area) r st' =
     ((write_answer st (min area most) a b ≡ Ok tt) × Wrote G st a b x st') ⊥
 Made G most st (Read a b area) r st' =
     ByAnswer r ⊥ (λ f. (read_answer st (min area most) a b ≡ Err f) × (st' ≡ st))
-    (λ x. (read_answer st (min area most) a b ≡ Ok tt) × Recovered G (size_of st) (absent st) st.store.block a b x × (st' ≡ st)) ⊥ ⊥
+    (λ x. (read_answer st (min area most) a b ≡ Ok tt) × RecoveredFrom G (seen st) a b x × (st' ≡ st)) ⊥ ⊥
 Made G most st (Lose s) r st' =
     ByAnswer r ⊥ (λ f. (lose_answer st s ≡ Err f) × (st' ≡ st)) (λ _. ⊥)
     ((lose_answer st s ≡ Ok tt) × Remarked st.store s true st'.store × (st'.filling ≡ st.filling)) ⊥

@@ -8,7 +8,8 @@ use Rattle.code.proofs.Rows.{ordered}
 use Rattle.code.proofs.Sums.{unit, unit_left}
 use Rattle.faults.specs.declared.faults.Fault.{Fault}
 use Rattle.store.specs.Meaning.{Meaning, get_answer}
-use Rattle.state.specs.Additions.{spot, row_part, Added}
+use Rattle.recovery.specs.Patterns.{spot}
+use Rattle.state.specs.Additions.{row_part, Added}
 
 or_swap : (x y : Bool) → (x || y) ≡ (y || x)
 or_swap true true = refl

@@ -1,13 +1,9 @@
 -- Blocks added to the pairs of a store.
-use Rattle.std.specs.Prelude.{◌≡◌, ℕ, ◌<◌, min, max, Bool, cond, ◌&&◌, ◌||◌, List, ◌==◌, nat_lt, slice_index_or}
+use Rattle.std.specs.Prelude.{◌≡◌, ℕ, ◌<◌, Bool, cond, ◌&&◌, ◌||◌, List, ◌==◌, nat_lt, slice_index_or}
 use Rattle.kinds.specs.Group.{Group}
 use Rattle.code.specs.Rules.{Blocks, of}
 use Rattle.store.specs.Meaning.{Meaning}
-use Rattle.state.specs.Calls.{Touched}
-
--- d at the pair of a and b, and none elsewhere
-abbrev pub spot : {B : Type 0} → B → B → ℕ → ℕ → Blocks B
-spot none d a b u v = cond (u == max a b && v == min a b) d none
+use Rattle.recovery.specs.Patterns.{Touched}
 
 -- the pairs of c with the stations below k, from a row
 abbrev pub row_part : {B : Type 0} → Group B → ℕ → ℕ → List B → Blocks B

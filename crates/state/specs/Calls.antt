@@ -1,15 +1,15 @@
 -- What each call of a book answers, and what it leaves.
-use Rattle.std.specs.Prelude.{◌≡◌, ℕ, ◌+◌, ◌*◌, ◌<◌, ◌≤◌, min, max, Bool, true, false, cond, ◌&&◌, ◌||◌, Some, None, Ok, Err, Option, Result, ◌==◌, nat_le, nat_lt}
-use Rattle.kinds.specs.Bits.{bit_group}
+use Rattle.std.specs.Prelude.{◌≡◌, ℕ, ◌+◌, ◌*◌, ◌<◌, ◌≤◌, max, Bool, true, false, cond, ◌&&◌, ◌||◌, Some, None, Ok, Err, Option, Result, ◌==◌, nat_le, nat_lt}
 use Rattle.kinds.specs.Group.{Group}
-use Rattle.code.specs.Rebuilt.{Recovered}
-use Rattle.code.specs.Rules.{Blocks, of, Codeword}
+use Rattle.code.specs.Rules.{Blocks, of}
 use Rattle.code.specs.Sizes.{OddPrime}
 use Rattle.faults.specs.declared.faults.Fault.{Fault}
 use Rattle.faults.specs.declared.faults.Fault.TheVariants.{OutAtOpen, AreaTooShort, NoSuchStation, CheckPair, AlreadyAbsent, NotOut, FillingUnderWay, TooManyAbsent, TicketRefused}
+use Rattle.recovery.specs.Patterns.{Touched}
+use Rattle.recovery.specs.Recovery.{RecoveredFrom}
 use Rattle.store.specs.Meaning.{Meaning, Written, first}
 use Rattle.state.specs.Fillings.{next_of}
-use Rattle.state.specs.States.{State, size_of, being_filled, absent, absent_count}
+use Rattle.state.specs.States.{State, size_of, being_filled, absent, absent_count, seen}
 use Rattle.state.specs.declared.records.Filling.{Filling}
 
 -- three or more stations are absent
@@ -62,17 +62,11 @@ read_answer st len a b =
 abbrev pub write_answer : {B : Type 0} → State B → ℕ → ℕ → ℕ → Result (Unit {0}) Fault
 write_answer st len a b = data_answer st len a b (few_answer st)
 
--- the pattern of a data pair, and the pair itself: the codeword of bits with 1 there and 0 at the other data pairs
-pub record Touched (n a b : ℕ) (word : Blocks Bool) : Type 0 where
-  pub code : Codeword bit_group n word
-  pub one : of word a b ≡ true
-  pub others : (p q : ℕ) → p + 2 < n → q + 2 < n → ((max p q ≡ max a b) × (min p q ≡ min a b) → ⊥) → of word p q ≡ false
-
 -- d is the sum of the new block and the recovered one; each pair whose stations are both in, and that is the written pair
 -- or in its pattern, takes its stored block plus d, and all else stays
 pub record Wrote {B : Type 0} (G : Group B) (st : State B) (a b : ℕ) (x : B) (st' : State B) : Type 0 where
   pub old : B
-  pub recovered : Recovered G (size_of st) (absent st) st.store.block a b old
+  pub recovered : RecoveredFrom G (seen st) a b old
   pub word : Blocks Bool
   pub touched : Touched (size_of st) a b word
   pub size : size_of st' ≡ size_of st
@@ -117,7 +111,7 @@ pub record CanFill {B : Type 0} (st : State B) (t next len : ℕ) : Type 0 where
 -- it recovers the pair of the station being filled with its next partner, and puts it if that partner is in
 pub record Filled {B : Type 0} (G : Group B) (st : State B) (t next : ℕ) (m' : Meaning B) : Type 0 where
   pub block : B
-  pub recovered : Recovered G (size_of st) (absent st) st.store.block t next block
+  pub recovered : RecoveredFrom G (seen st) t next block
   pub put : st.store.out next ≡ false → Written st.store t next block m'
   pub passed : st.store.out next ≡ true → m' ≡ st.store
 

@@ -1,6 +1,6 @@
 -- What a book means: its store, and the record of the filling.
 use Rattle.std.specs.Prelude.{◌≡◌, ℕ, ◌<◌, ◌≤◌, Bool, false, ◌||◌, Some, None, Option, ◌==◌}
-use Rattle.code.specs.Rebuilt.{absentees}
+use Rattle.recovery.specs.Recovery.{absent_in}
 use Rattle.store.specs.Meaning.{Meaning}
 use Rattle.state.specs.declared.records.Filling.{Filling}
 
@@ -27,9 +27,13 @@ being_filled (Some f) s = s == f.station
 abbrev pub absent : {B : Type 0} → State B → ℕ → Bool
 absent st s = st.store.out s || being_filled st.filling s
 
+-- the book's store as its calls see it: the station being filled counts as out
+abbrev pub seen : {B : Type 0} → State B → Meaning B
+seen st = record { size = size_of st; out = absent st; block = st.store.block }
+
 -- how many stations are absent
 abbrev pub absent_count : {B : Type 0} → State B → ℕ
-absent_count st = absentees (absent st) (size_of st)
+absent_count st = absent_in (seen st)
 
 -- the station being filled is one of the stations and in, and its next partner is at most n
 abbrev pub SoundAt : ℕ → (ℕ → Bool) → Option Filling → Type 0

@@ -1,6 +1,6 @@
 -- What a store means, and what its calls answer.
-use Rattle.std.specs.Prelude.{◌≡◌, ℕ, zero, suc, ◌<◌, ◌≤◌, min, max, Bool, true, false, cond, ◌||◌, ◌≢◌, Some, None, Ok, Err, Option, Result, ◌==◌, nat_le, nat_lt, ◌&&◌}
-use Rattle.code.specs.Marks.{marked}
+use Rattle.std.specs.Prelude.{◌≡◌, ℕ, zero, suc, ◌<◌, ◌≤◌, min, max, Bool, true, false, cond, ◌||◌, ◌≢◌, Some, None, Ok, Err, Option, Result, nat_le, nat_lt, ◌&&◌}
+use Rattle.code.specs.Marks.{marked, turned}
 use Rattle.code.specs.Rules.{Blocks, of}
 use Rattle.faults.specs.declared.faults.Fault.{Fault}
 use Rattle.faults.specs.declared.faults.Fault.TheVariants.{NoSuchStation, AlreadyOut, AlreadyIn, StationOut}
@@ -68,7 +68,7 @@ pub record Written {B : Type 0} (m : Meaning B) (a b : ℕ) (x : B) (m' : Meanin
 -- m' is m with station s out, or in, as b says; the pairs with s hold any blocks
 pub record Remarked {B : Type 0} (m : Meaning B) (s : ℕ) (b : Bool) (m' : Meaning B) : Type 0 where
   pub size : m'.size ≡ m.size
-  pub out : (t : ℕ) → t < m.size → m'.out t ≡ cond (t == s) b (m.out t)
+  pub out : (t : ℕ) → t < m.size → m'.out t ≡ turned m.out s b t
   pub others : (p q : ℕ) → p < m.size → q < m.size → p ≢ s → q ≢ s → of m'.block p q ≡ of m.block p q
 
 -- what a call that was accepted did; one that was refused changed nothing

@@ -2,7 +2,7 @@
 use Rattle.std.proofs.Common.{◌≡◌, ℕ, ◌*◌, ◌<◌, true, false, is_ok, Some, None, Ok, Err, Option, Result, sym, refl, ap, ◌∙◌, subst, ap₂, arith}
 use Rattle.std.proofs.lemmas.Bool.Decides.{nat_tests}
 use Rattle.kinds.specs.Group.{Group}
-use Rattle.code.specs.Rebuilt.{Recovered}
+use Rattle.recovery.specs.Recovery.{RecoveredFrom}
 use Rattle.code.specs.Rules.{Codeword}
 use Rattle.code.proofs.Rows.{neighbourhood_cong, diagonal_cong, of_le}
 use Rattle.faults.specs.declared.faults.Fault.{Fault}
@@ -12,7 +12,7 @@ use Rattle.audit.specs.declared.audits.Verdict.{Verdict}
 use Rattle.audit.specs.declared.audits.Verdict.TheVariants.{Sound, BrokenNeighbourhood, BrokenDiagonal}
 use Rattle.audit.proofs.First.{first_none, first_cong}
 use Rattle.state.specs.Calls.{read_answer, write_answer, lose_answer, Wrote}
-use Rattle.state.specs.States.{State, state, size_of, absent}
+use Rattle.state.specs.States.{State, state, size_of, absent, seen}
 use Rattle.state.specs.declared.records.Filling.{Filling}
 use Rattle.state.proofs.Fillings.{did, left_alone}
 use Rattle.orders.specs.declared.lines.Reply.TheVariants as reply
@@ -94,7 +94,7 @@ module _ {B : Type 0} (G : Group B) (t : Tally B) (st : State B) (len : ℕ) (R 
       (record { matched = K.keeps t R.matched; idle = K.filling; long = omega (arith, R.long, ap (λ k. 8 * k) K.size) }, K.size))
       (λ f bad. left_alone r (Replaced G st s st') (st' ≡ st) (ap is_ok bad) h)
 
-  pub performed_read : (a b : ℕ) (x : B) → Ok tt ≡ read_answer st len a b → Recovered G (size_of st) (absent st) st.store.block a b x → Performed G t st len (Ok (Read a b)) (reply.Block x) st
+  pub performed_read : (a b : ℕ) (x : B) → Ok tt ≡ read_answer st len a b → RecoveredFrom G (seen st) a b x → Performed G t st len (Ok (Read a b)) (reply.Block x) st
   performed_read a b x e h =
       let p = read_has st len a b (ap is_ok (sym e)) in
       let o : refusal (size_of st) t (Read a b) ≡ None = outcome_none (refusal (size_of st) t (Read a b)) (sym (read_as G t st len R a b) ∙ sym e) in
@@ -125,7 +125,7 @@ module _ {B : Type 0} (G : Group B) (t : Tally B) (st : State B) (len : ℕ) (R 
   same_first : first t.absent (size_of st) ≡ first (absent st) (size_of st)
   same_first = first_cong t.absent (absent st) (size_of st) R.matched.gone
 
-  pub performed_audit : (v : Verdict) → Audited G (size_of st) (absent st) st.store.block (Ok v) → Performed G t st len (Ok Audit) (reply.Found v) st
+  pub performed_audit : (v : Verdict) → Audited G (seen st) (Ok v) → Performed G t st len (Ok Audit) (reply.Found v) st
   performed_audit v h =
       let o : refusal (size_of st) t Audit ≡ None = ap (audit_refusal (size_of st) t) (same_first ∙ h.0) in
       record {
@@ -134,5 +134,5 @@ module _ {B : Type 0} (G : Group B) (t : Tally B) (st : State B) (len : ℕ) (R 
         ready = subst (λ o. Ready G (by_refusal o t (λ _. t)) st len) (sym o) R;
       }
 
-  pub refused_audit : (f : Fault) → Audited G (size_of st) (absent st) st.store.block (Err f) → Performed G t st len (Ok Audit) (reply.Refused f) st
+  pub refused_audit : (f : Fault) → Audited G (seen st) (Err f) → Performed G t st len (Ok Audit) (reply.Refused f) st
   refused_audit f h = refused Audit f (ap (audit_refusal (size_of st) t) (same_first ∙ h.1) ∙ sym (ap Some h.2))

@@ -1,5 +1,5 @@
 -- Replacing a station: it is fitted, filled until the ticket is full, and finished.
-use Rattle.std.specs.Prelude.{◌≡◌, ℕ, ◌*◌, ◌<◌, ◌≤◌, false, cond, ◌≢◌, None, Ok, Err, Option, Result, ◌==◌, nat_lt}
+use Rattle.std.specs.Prelude.{◌≡◌, ℕ, ◌*◌, ◌<◌, ◌≤◌, false, cond, ◌≢◌, None, Ok, Err, Option, Result, nat_lt}
 use Rattle.kinds.specs.Group.{Group}
 use Rattle.code.specs.Rules.{of}
 use Rattle.faults.specs.declared.faults.Fault.{Fault}
@@ -9,7 +9,8 @@ use Rattle.state.specs.States.{State, size_of, filling_at, Sound}
 use Rattle.state.specs.declared.records.Filling.{Filling}
 use Rattle.book.specs.declared.tickets.TicketOf.{TicketOf}
 use Rattle.serve.specs.Matches.{Matches}
-use Rattle.serve.specs.Tally.{Tally, turned}
+use Rattle.code.specs.Marks.{turned}
+use Rattle.serve.specs.Tally.{Tally}
 
 -- may s be replaced? The work area is looked at first, and then what fit looks at
 abbrev pub replace_answer : {B : Type 0} → State B → ℕ → ℕ → Result (Unit {0}) Fault
@@ -44,7 +45,7 @@ pub record FilledTo {B : Type 0} (G : Group B) (st : State B) (s next : ℕ) (st
 -- whatever tally the book matched, it matches with s standing
 pub record Replaced {B : Type 0} (G : Group B) (st : State B) (s : ℕ) (st' : State B) : Type 0 where
   pub size : size_of st' ≡ size_of st
-  pub out : (k : ℕ) → k < size_of st → st'.store.out k ≡ cond (k == s) false (st.store.out k)
+  pub out : (k : ℕ) → k < size_of st → st'.store.out k ≡ turned st.store.out s false k
   pub others : (p q : ℕ) → p < size_of st → q < size_of st → p ≢ s → q ≢ s → of st'.store.block p q ≡ of st.store.block p q
   pub filling : st'.filling ≡ None
   pub keeps : (t : Tally B) → Matches G t st → Matches G (restored t s) st'

@@ -1,6 +1,7 @@
 use Rattle.std.proofs.Common.{◌≡◌, ℕ, suc, ◌+◌, ◌-◌, Bool, true, false, length, get_or, refl, sym, ap, ◌∙◌, subst, arith}
 use Rattle.std.specs.Range.{range_inclusive_len}
-use Rattle.state.specs.Additions.{spot, Added}
+use Rattle.recovery.specs.Patterns.{spot}
+use Rattle.state.specs.Additions.{Added}
 use Rattle.state.proofs.Addings.{row_step}
 use Rattle.book.proofs.writes.add_row.Goals as goal
 

@@ -1,11 +1,11 @@
-use Rattle.std.proofs.Common.{◌≡◌, ℕ, ◌+◌, ◌-◌, ◌<◌, Bool, false, ◌&&◌, leb, length, take, drop, get_or, sym, ap, ◌∙◌, arith}
+use Rattle.std.proofs.Common.{◌≡◌, ℕ, ◌-◌, ◌<◌, Bool, false, length, take, drop, get_or, sym, ap, ◌∙◌, arith}
 use Rattle.std.proofs.lemmas.List.{get_or_append_left, get_or-append_right, get_or-drop, length-take-le}
 use Rattle.code.specs.Places.{pair_place}
 use Rattle.code.specs.Sizes.{pairs}
 use Rattle.code.proofs.Placed.{pairs_few}
 use Rattle.code.proofs.Primes.{listed_prime}
 use Rattle.code.proofs.Table.{place_below}
-use Rattle.recovery.specs.Recovery.{row_place}
+use Rattle.recovery.specs.Recovery.{row_bit}
 use Rattle.recovery.proofs.Laid.{pair_below, lay_bit}
 use Rattle.recovery.proofs.patterns.lay_bits.Goals as goal
 use Rattle.recovery.proofs.patterns.lay_bits.Goals.{in-Some, in_default}
@@ -24,7 +24,8 @@ loop-p-preserved c x y lx ly h =
     let p = c.loop-p.p in
     let e : pairs n ≡ c.pairs.result = sym c.pairs.ensures in
     let long : length (take c.pairs.result c.args.into.now) ≡ c.pairs.result = length-take-le c.pairs.result c.args.into.now (omega arith) in
-    let bit : ℕ → ℕ → Bool = λ x y. leb n (x + 2) && get_or c.args.rows.now.area.now (row_place n c.args.rows.now.two x y) false in
+    let rows = c.args.rows.now in
+    let bit : ℕ → ℕ → Bool = row_bit n rows.two rows.first.now rows.second.now in
     elim c.match-pair_at.branch [
       | in-Some w ↦ ap (λ xs. get_or xs (pair_place x y) false) w.bits-is
           ∙ lay_bit n p c.loop-p.bits bit w.in-Some.pair w.in-Some.ensures.1 (omega arith) c.loop-p.invariant w.bit.result w.bit.ensures x y lx ly h

@@ -1,10 +1,10 @@
-use Rattle.std.proofs.Common.{◌≡◌, ◌+◌, ◌-◌, Bool, true, false, ◌&&◌, leb, get_or, sym, ap, ◌∙◌, subst, arith}
+use Rattle.std.proofs.Common.{◌≡◌, ◌-◌, Bool, true, take, drop, sym, ap, ◌∙◌, subst, arith}
 use Rattle.kinds.specs.Bits.{bit_group}
 use Rattle.code.specs.Sizes.{pairs}
 use Rattle.code.specs.declared.places.Pair.{Pair}
 use Rattle.store.specs.Meaning.{Meaning}
 use Rattle.recovery.specs.Patterns.{impulse, Pattern}
-use Rattle.recovery.specs.Recovery.{Two, Rows, row_place}
+use Rattle.recovery.specs.Recovery.{Two, Rows}
 use Rattle.recovery.proofs.Impulses.{two_checks, pattern_laid}
 use Rattle.recovery.proofs.patterns.lay_pattern.Goals as goal
 
@@ -18,7 +18,7 @@ rebuild-requires c =
     let e : m ≡ impulse bit_group n a b true = c.new-store.ensures ∙ ap (λ k. impulse bit_group k a b true) (sym c.number-n.ensures.same) in
     let k : made.size.number ≡ n = ap (λ m. m.size) e in
     record {
-      two = subst (λ m. Two m.out m.size (record { larger = n - 1; smaller = n - 2 })) (sym e) (two_checks n a b (omega arith));
+      two = subst (λ m. Two m (record { larger = n - 1; smaller = n - 2 })) (sym e) (two_checks n a b (omega arith) bit_group true);
       long = omega arith;
     }
 
@@ -33,9 +33,10 @@ returns c =
     let e : m ≡ impulse bit_group n a b true = c.new-store.ensures ∙ ap (λ k. impulse bit_group k a b true) (sym s) in
     let two : Pair = record { larger = n - 1; smaller = n - 2 } in
     let area = c.rebuild.new.work in
-    let q : pairs n ≡ pairs c.args.size.number = ap pairs s in
+    let here : c.new.result.size.number ≡ n = ap (λ z. z.number) c.new.ensures.size ∙ sym s in
+    let q : pairs c.new.result.size.number ≡ pairs n = ap pairs here in
     subst (λ k. Pattern k a b c.args.into.now c.lay_bits.new.into) s
-    (pattern_laid n a b (omega arith) area c.args.into.now c.lay_bits.new.into
-    (subst (λ m. Rows bit_group m.size m.out m.block two area) e c.rebuild.ensures)
-    (λ x y lx ly. c.lay_bits.ensures.laid x y (omega arith) ly ∙ ap (λ k. leb k (x + 2) && get_or area (row_place k two x y) false) (sym s))
+    (pattern_laid n a b (omega arith) (take n area) (drop n area) c.args.into.now c.lay_bits.new.into
+    (subst (λ m. Rows bit_group m two (take m.size area) (drop m.size area)) e c.rebuild.ensures)
+    (λ x y lx ly. c.lay_bits.ensures.laid x y (omega arith) ly ∙ cc)
     (λ p l. c.lay_bits.ensures.later p (omega arith)))

@@ -5,4 +5,4 @@ use Rattle.recovery.proofs.rebuilds.rebuild.Goals as goal
 pub returns : goal.returns
 returns g c =
     let m = g.S.ReadStore.means c.args.store.now in
-    joined g.S.Block.BlockKind.group m.size m.out m.block c.args.pair c.rebuild_rows.new.first c.rebuild_rows.new.second _ (search rules) (search rules) c.rebuild_rows.ensures
+    joined g.S.Block.BlockKind.group m c.args.pair c.rebuild_rows.new.first c.rebuild_rows.new.second _ (search rules) (search rules) c.rebuild_rows.ensures

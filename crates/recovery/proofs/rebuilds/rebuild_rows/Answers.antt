@@ -30,7 +30,7 @@ returns g c =
     let second_laid : (k : ℕ) → k < n → block_at G second k ≡ G.sum (block_at G near k) (block_at G first k) = (λ k l. let q = c.lay_row-4.ensures k G.none (omega (arith, l, c.requires.second)) in grind (arith, common_steps)) in
     let at_walk : (P : ℕ → ℕ → ℕ → Type 0) → P walk.n walk.i walk.j → P n i j = λ P. along P walk.n walk.i walk.j n i j (c.new-walk.ensures.n ∙ c.size-size.ensures) c.new-walk.ensures.i c.new-walk.ensures.j in
     let at_j : c.index-across-from.result ≡ block_at G across j = get_or_read across c.from.result _ (omega arith) c.index-across-from.is G.none ∙ ap (block_at G across) c.from.ensures in
-    assembled G n (at_walk (λ n i j. OddPrime n) walk.prime) m.out pair c.requires.two m.block near across drift first second c.close.new.first c.close.new.second third near_laid across_laid
+    assembled G m (at_walk (λ n i j. OddPrime n) walk.prime) pair c.requires.two near across drift first second c.close.new.first c.close.new.second third near_laid across_laid
     (at_walk (λ n i j. (s : ℕ) → s + 2 < n → block_at G drift (station n i j (s + 2)) ≡ gathered G n i j near across s) c.lay_drift.ensures)
     (c.add-third.ensures ∙ ap₂ G.sum at_j (at_walk (λ n i j. c.drift_sum.result ≡ all_gathered G n i j drift) c.drift_sum.ensures))
     first_laid second_laid
