@@ -4,15 +4,7 @@ use native.Mathlib.Nat.{max-eq_left, min-eq_right}
 use Rattle.std.proofs.lemmas.List.{get_or-set_same, get_or-set_other}
 use Rattle.std.proofs.lemmas.Bool.{cases_eq}
 use Rattle.code.specs.Places.{pair_place, PairAt}
-use Rattle.code.specs.Sizes.{pairs}
 use Rattle.code.specs.declared.places.Pair.{Pair}
-use Rattle.code.proofs.Placed.{below_place}
-
--- the pair at a place below n (n + 1) / 2 has stations below n
-pub pair_below : (n p : ℕ) (x : Pair) → PairAt p x → p < pairs n → (x.larger < n) × (x.smaller < n)
-pair_below n p x at l =
-    let lx : x.larger < n = below_place n x.larger x.smaller at.ordered (omega (arith, at.placed)) in
-    (lx, omega (arith, at.ordered))
 
 -- one more bit
 pub lay_bit : (n p : ℕ) (into : List Bool) (bit : ℕ → ℕ → Bool) (pair : Pair) → PairAt p pair → p < length into

@@ -1,13 +1,13 @@
--- A pair's block as stored, from the rest of its diagonal, or from rebuilt rows, is recovered.
-use Rattle.std.proofs.Common.{◌≡◌, ℕ, ◌+◌, ◌%◌, ◌<◌, min, max, Bool, true, false, ◌||◌, ◌≢◌, ◌⊎◌, List, sym, ap, ◌∙◌, inl, inr, arith}
-use Rattle.std.proofs.lemmas.Bool.{cases_eq, both_ways, cond-false, or_parts, or_from}
+-- A pair's block from the rest of its diagonal, or from rebuilt rows, is recovered.
+use Rattle.std.proofs.Common.{◌≡◌, ℕ, ◌+◌, ◌%◌, ◌<◌, Bool, true, ◌||◌, ◌≢◌, ◌⊎◌, List, sym, ap, ◌∙◌, inl, inr, arith}
+use Rattle.std.proofs.lemmas.Bool.{cases_eq, both_ways, or_from}
 use Rattle.std.proofs.lemmas.Bool.Decides.{nat_tests}
 use Rattle.kinds.specs.Group.{Group}
 use Rattle.code.specs.Rebuilt.{Kept}
 use Rattle.code.specs.Rules.{Blocks, of, diagonal}
 use Rattle.code.specs.declared.places.Pair.{Pair}
 use Rattle.code.proofs.Rest.{rest_stands}
-use Rattle.code.proofs.Rows.{ordered, of_swap}
+use Rattle.code.proofs.Rows.{of_swap}
 use Rattle.store.specs.Meaning.{Meaning}
 use Rattle.store.specs.Standing.{standing}
 use Rattle.recovery.specs.Recovery.{absent_in, RecoveredFrom, Two, Rows, row_block}
@@ -21,16 +21,6 @@ module _ {B : Type 0} (G : Group B) (m : Meaning B) (a b : ℕ) (la : a < m.size
 
   abbrev f : Blocks B
   f = m.block
-
-  pub stored_recovered : (absent a || absent b) ≡ false → r ≡ of (standing G m) a b → RecoveredFrom G m a b r
-  stored_recovered h e =
-      let p = or_parts (absent a) (absent b) h in
-      let q : (absent (max a b) || absent (min a b)) ≡ false = ordered (λ x y. (absent x || absent y) ≡ false) a b h (or_from (absent b) (absent a) p.1 p.0) in
-      record {
-        stored = λ _. e ∙ cond-false (absent (max a b) || absent (min a b)) G.none (of f a b) q;
-        one = λ d _. absurd (d p);
-        two = λ d _. absurd (d p);
-      }
 
   -- a station of the pair is absent
   module _ (lost : (absent a || absent b) ≡ true) where

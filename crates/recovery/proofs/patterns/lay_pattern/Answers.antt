@@ -4,24 +4,9 @@ use Rattle.code.specs.Sizes.{pairs}
 use Rattle.code.specs.declared.places.Pair.{Pair}
 use Rattle.store.specs.Meaning.{Meaning}
 use Rattle.recovery.specs.Patterns.{impulse, Pattern}
-use Rattle.recovery.specs.Recovery.{Two, Rows}
-use Rattle.recovery.proofs.Impulses.{two_checks, pattern_laid}
+use Rattle.recovery.specs.Recovery.{Rows}
+use Rattle.recovery.proofs.Impulses.{pattern_laid}
 use Rattle.recovery.proofs.patterns.lay_pattern.Goals as goal
-
-pub rebuild-requires : goal.rebuild-requires
-rebuild-requires c =
-    let n = c.number-n.result in
-    let a = c.args.a in
-    let b = c.args.b in
-    let made = c.new-store.result in
-    let m : Meaning Bool = impulse bit_group made.size.number made.a made.b made.block in
-    let e : m ≡ impulse bit_group n a b true = c.new-store.ensures ∙ ap (λ k. impulse bit_group k a b true) (sym c.number-n.ensures.same) in
-    let k : made.size.number ≡ n = ap (λ m. m.size) e in
-    record {
-      two = subst (λ m. Two m (record { larger = n - 1; smaller = n - 2 })) (sym e) (two_checks n a b (omega arith) bit_group true);
-      long = omega arith;
-    }
-
 pub returns : goal.returns
 returns c =
     let n = c.number-n.result in

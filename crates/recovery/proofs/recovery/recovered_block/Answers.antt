@@ -1,16 +1,9 @@
-use Rattle.std.proofs.Common.{◌≡◌, ◌+◌, ◌%◌, false, true, ◌||◌, take, drop, ap, ◌∙◌, arith}
+use Rattle.std.proofs.Common.{◌≡◌, ◌+◌, ◌%◌, true, ◌||◌, take, drop, ap, ◌∙◌, arith}
 use Rattle.std.proofs.lemmas.Bool.Decides.{nat_tests}
 use Rattle.code.specs.Rules.{diagonal}
 use Rattle.store.specs.Standing.{standing}
-use Rattle.recovery.proofs.Picked.{stored_recovered, one_recovered, two_recovered}
+use Rattle.recovery.proofs.Picked.{one_recovered, two_recovered}
 use Rattle.recovery.proofs.recovery.recovered_block.Goals as goal
-
-pub returns-then-not-is_lost : goal.returns-then-not-is_lost
-returns-then-not-is_lost g c =
-    let m = g.S.ReadStore.means c.args.store.now in
-    let kept : (m.out c.args.a || m.out c.args.b) ≡ false = grind (arith, nat_tests, c.if-not-is_lost.ensures) in
-    stored_recovered g.S.Block.BlockKind.group m c.args.a c.args.b c.requires.first c.requires.second _ kept c.kept_block.ensures
-
 pub returns-in-Some : goal.returns-in-Some
 returns-in-Some g c =
     let m = g.S.ReadStore.means c.args.store.now in
