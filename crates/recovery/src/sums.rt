@@ -7,7 +7,8 @@ use kinds::BlockKind;
 use store::{ReadStore, block_or_zero};
 
 // The stored block of a pair, or zero where one of its stations is out: what `block_or_zero` says for stations below the
-// size, told once for its three callers in the terms of their sums.
+// size, told once for its three callers in the terms of their sums. That the two are stations stands in a clause each, here
+// and at `recovered_block` and `RowPair::block`: a type of stations would still owe that its size is the store's.
 pub(crate) fn kept_block<S: ReadStore>(store: &S, a: u8, b: u8) -> S::Block
     requires first { a < (S.means store.now).size }
     requires second { b < (S.means store.now).size }

@@ -3,28 +3,11 @@ use Rattle.std.proofs.lemmas.Bool.{le-leb, lt-leb, cond-true, cond-false, both_w
 use Rattle.kinds.specs.Group.{sum_to}
 use Rattle.code.specs.Rules.{of, neighbourhood, diagonal}
 use Rattle.code.proofs.Steps.{sum_more, sum_skip}
-use Rattle.code.proofs.Sums.{cond_eq, cond_ne}
 use Rattle.code.proofs.Rows.{of_le}
 use Rattle.code.proofs.Diagonals.{share, mate, mate_below, diagonal_shares}
 use Rattle.store.proofs.Gets.{got}
 use Rattle.audit.proofs.audits.first_broken.Goals as goal
-use Rattle.audit.proofs.audits.first_broken.Goals.{then-k-h, else-k-h, then-b-a, else-b-a}
-
-pub loop-k-preserved : goal.loop-k-preserved
-loop-k-preserved g c =
-    let G = g.S.Block.BlockKind.group in
-    let m = g.S.ReadStore.means c.args.store.now in
-    let h : ℕ = c.loop-h.h in
-    let k : ℕ = c.loop-k.k in
-    let lh : h < m.size = omega (arith, c.size.ensures, c.number-n.ensures.same, c.loop-h-test.true) in
-    let lk : k < m.size = omega (arith, c.size.ensures, c.number-n.ensures.same, c.loop-k-test.true) in
-    let term = λ (k : ℕ). cond (eqb k h) G.none (of m.block h k) in
-    elim c.if-k-h.branch [
-      | then-k-h w ↦ w.sum-is ∙ w.add-sum.ensures
-          ∙ sum_more G term k c.loop-k.sum w.block_or_zero.result c.loop-k.invariant
-          (w.block_or_zero.ensures ∙ got m h k (of m.block h k) G.none lh lk (c.requires h lh) (c.requires k lk) ∙ sym (cond_ne k h G.none (of m.block h k) w.if-k-h.true))
-      | else-k-h w ↦ w.sum-is ∙ sum_skip G term k c.loop-k.sum c.loop-k.invariant (cond_eq k h G.none (of m.block h k) w.if-k-h.false)
-    ]
+use Rattle.audit.proofs.audits.first_broken.Goals.{then-b-a, else-b-a}
 
 pub loop-h-preserved : goal.loop-h-preserved
 loop-h-preserved g c =
