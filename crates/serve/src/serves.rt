@@ -158,7 +158,7 @@ fn try_call<S: WriteStore>(
     }
 }
 
-// What a call is answered, whether it is refused or not.
+// What a call is answered, whether it is refused or not. `unwrap_or_else` was tried here, and the check does not cover it.
 fn make_call<S: WriteStore>(
     book: &mut Book<S>,
     call: Call<S::Block>,

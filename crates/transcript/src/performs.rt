@@ -57,7 +57,7 @@ fn perform<S: WriteStore>(
     }
 }
 
-// The reply to a request, whether it is refused or not.
+// The reply to a request, whether it is refused or not. `unwrap_or_else` was tried here, and the check does not cover it.
 fn reply_to<S: WriteStore>(
     book: &mut Book<S>,
     request: Result<Request<S::Block>, Fault>,

@@ -16,6 +16,7 @@ use book::Book;
 use code::Size;
 use faults::Fault;
 use kinds::{Block, BlockKind};
+use recovery::work_length;
 use std::alloc::{AllocError, Global};
 use store::{ReadStore, Table, WriteStore, check_table};
 
@@ -62,7 +63,7 @@ fn answer_records(heap: Global, size: Size, input: &[u8]) -> Result<Vec<u8>, All
     let n = size.number();
     let mut steps = read_requests(heap, input)?;
     let mut row = vec![in heap; Block::zero(); size.pairs()]?;
-    let mut work = vec![in heap; Block::zero(); 8 * usize::from(n)]?;
+    let mut work = vec![in heap; Block::zero(); work_length(size)]?;
     tell_on_row(
         heap,
         n,
