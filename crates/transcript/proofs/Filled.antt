@@ -1,21 +1,20 @@
 -- The filling of a station from its beginning to its end: no fill is refused, and what the book matched it still matches.
-use Rattle.std.proofs.Common.{◌≡◌, ℕ, ◌+◌, ◌*◌, ◌<◌, ◌≤◌, min, max, Bool, true, false, cond, ◌||◌, ltb, ◌≢◌, Ok, Err, Result, sym, refl, ap, ◌∙◌, subst, ap₂, inl, inr, arith}
-use Rattle.std.proofs.lemmas.Bool.{cases_Bool, lt-ltb, le-ltb, eq-eqb, ltb-true, ltb-false}
+use Rattle.std.proofs.Common.{◌≡◌, ℕ, ◌+◌, ◌<◌, ◌≤◌, min, max, Bool, true, false, cond, ◌||◌, ltb, ◌≢◌, Ok, sym, refl, ap, ◌∙◌, subst, ap₂, inl, inr, arith}
+use Rattle.std.proofs.lemmas.Bool.{cases_Bool, lt-ltb, ltb-true, ltb-false}
 use Rattle.kinds.specs.Group.{Group}
 use Rattle.code.specs.Rebuilt.{absentees}
 use Rattle.code.specs.Rules.{of}
 use Rattle.code.proofs.Absent.{absentees_cong}
-use Rattle.faults.specs.declared.faults.Fault.{Fault}
 use Rattle.store.specs.Meaning.{Meaning, Written}
-use Rattle.state.specs.Calls.{fill_answer, too_many, Filled, FilledNext}
-use Rattle.state.specs.Fillings.{stepped}
+use Rattle.state.specs.Calls.{too_many, Filled, FilledNext}
+use Rattle.state.specs.Fillings.{next_of, stepped}
 use Rattle.book.specs.Tickets.{ticket_after}
 use Rattle.state.specs.States.{State, state, size_of, absent, absent_count, being_filled, filling_at, Sound, SoundAt}
 use Rattle.book.specs.declared.tickets.TicketOf.{TicketOf}
 use Rattle.book.specs.declared.tickets.Ticket.TheVariants.{Open, Full}
 use Rattle.serve.specs.Matches.{Matches}
 use Rattle.serve.proofs.Keeps.{keep_fill}
-use Rattle.transcript.specs.Replaces.{CanFillUp, FilledTo, with_filling}
+use Rattle.transcript.specs.Replaces.{CanFillUp, FilledTo, FilledUp, with_filling}
 
 -- what a fill leaves as it was
 record Framed {B : Type 0} (m : Meaning B) (s : ℕ) (m' : Meaning B) : Type 0 where
@@ -30,6 +29,21 @@ framed G st s k m' F = elim (cases_Bool (st.store.out k)) [
   | inr o ↦ let w : Written st.store s k F.block m' = F.put o in
       record { size = w.size; out = w.out; others = λ p q lp lq np nq. w.others p q lp lq (λ h. let x : max p q ≡ max s k = h.0 in let y : min p q ≡ min s k = h.1 in omega arith) }
 ]
+
+-- which ticket came out
+full_at : (n next t : ℕ) (f : TicketOf 1) → Full f ≡ ticket_after n next t → (n ≤ next) × (f.station ≡ t)
+full_at n next t f e = go (ltb next n) refl e
+  where
+    go : (b : Bool) → ltb next n ≡ b → Full f ≡ cond b (Open (record { station = t })) (Full (record { station = t })) → (n ≤ next) × (f.station ≡ t)
+    go true h q = absurd cc
+    go false h q = (ltb-false next n h, cc)
+
+pub open_at : (n next t : ℕ) (o : TicketOf 0) → Open o ≡ ticket_after n next t → (next < n) × (o.station ≡ t)
+open_at n next t o e = go (ltb next n) refl e
+  where
+    go : (b : Bool) → ltb next n ≡ b → Open o ≡ cond b (Open (record { station = t })) (Full (record { station = t })) → (next < n) × (o.station ≡ t)
+    go true h q = (ltb-true next n h, cc)
+    go false h q = absurd cc
 
 module _ {B : Type 0} (G : Group B) (st : State B) (s len : ℕ) (can : CanFillUp st s len) where
   pub begun : FilledTo G st s 0 st
@@ -61,18 +75,11 @@ module _ {B : Type 0} (G : Group B) (st : State B) (s len : ℕ) (can : CanFillU
     few_at : too_many st₁ ≡ false
     few_at = ap (λ c. ltb 2 c) same_count ∙ can.few
 
-    pub accepts : fill_answer st₁ len s ≡ Ok tt
-    accepts =
-        let u : ltb len (8 * size_of st₁) ≡ false = le-ltb len (8 * size_of st₁) (omega (arith, can.long, ap (λ n. 8 * n) F.size)) in
-        let v : being_filled st₁.filling s ≡ true = ap (λ f. being_filled f s) F.filling ∙ eq-eqb s s refl in
-        let w : too_many st₁ ≡ false = few_at in
-        rw (u, v, w)
-
-    pub one_more : (st₂ : State B) → k < size_of st → FilledNext G st₁ st₁.filling st₂.store → st₂.filling ≡ stepped (size_of st₁) st₁.filling → FilledTo G st s (k + 1) st₂
-    one_more st₂ l next e =
+    one_more : (st₂ : State B) → k < size_of st → (Sound st₁ → FilledNext G st₁ st₁.filling st₂.store) → st₂.filling ≡ stepped (size_of st₁) st₁.filling → FilledTo G st s (k + 1) st₂
+    one_more st₂ l put e =
         let l₁ : k < size_of st₁ = omega (arith, F.size) in
-        let next' : FilledNext G (state st₁.store (filling_at s k)) (filling_at s k) st₂.store = subst (λ f. FilledNext G (state st₁.store f) f st₂.store) F.filling next in
-        let fr = framed G (state st₁.store (filling_at s k)) s k st₂.store (next'.0 l₁) in
+        let next : FilledNext G (state st₁.store (filling_at s k)) (filling_at s k) st₂.store = subst (λ f. FilledNext G (state st₁.store f) f st₂.store) F.filling (put sound_at) in
+        let fr = framed G (state st₁.store (filling_at s k)) s k st₂.store (next.0 l₁) in
         let step : stepped (size_of st₁) (filling_at s k) ≡ filling_at s (k + 1) = ap (λ c. cond c (filling_at s (k + 1)) (filling_at s k)) (lt-ltb k (size_of st₁) l₁) in
         let at : st₂.filling ≡ filling_at s (k + 1) = e ∙ ap (stepped (size_of st₁)) F.filling ∙ step in
         record {
@@ -83,26 +90,22 @@ module _ {B : Type 0} (G : Group B) (st : State B) (s len : ℕ) (can : CanFillU
           within = omega arith;
           keeps = λ t M.
               let M₁ : Matches G (with_filling t (filling_at s k)) (state st₁.store (filling_at s k)) = subst (λ f. Matches G (with_filling t (filling_at s k)) (state st₁.store f)) F.filling (F.keeps t M) in
-              let few' : too_many (state st₁.store (filling_at s k)) ≡ false = subst (λ f. too_many (state st₁.store f) ≡ false) F.filling few_at in
+              let few : too_many (state st₁.store (filling_at s k)) ≡ false = subst (λ f. too_many (state st₁.store f) ≡ false) F.filling few_at in
               subst (λ f. Matches G (with_filling t (filling_at s (k + 1))) (state st₂.store f)) (sym at)
-              (subst (λ f. Matches G (with_filling t f) (state st₂.store f)) step (keep_fill G (with_filling t (filling_at s k)) st₁.store st₂.store s k M₁ few' next'));
+              (subst (λ f. Matches G (with_filling t f) (state st₂.store f)) step (keep_fill G (with_filling t (filling_at s k)) st₁.store st₂.store s k M₁ few next));
         }
 
--- which ticket came out
-pub full_at : (n next t : ℕ) (f : TicketOf 1) → Full f ≡ ticket_after n next t → (n ≤ next) × (f.station ≡ t)
-full_at n next t f e = go (ltb next n) refl e
-  where
-    go : (b : Bool) → ltb next n ≡ b → Full f ≡ cond b (Open (record { station = t })) (Full (record { station = t })) → (n ≤ next) × (f.station ≡ t)
-    go true h q = let z : ◌≡◌ {A = ℕ} 0 1 = cc in absurd (omega arith)
-    go false h q = (ltb-false next n h, let r : f ≡ record { station = t } = cc in ap (λ x. x.station) r)
+    -- what a fill leaves where its ticket is still open, and where it is full
+    module _ (st₂ : State B) (l : k < size_of st) (put : Sound st₁ → FilledNext G st₁ st₁.filling st₂.store) (step : st₂.filling ≡ stepped (size_of st₁) st₁.filling) (t : ℕ) where
+      pub still_open : (o : TicketOf 0) → Open o ≡ ticket_after (size_of st₁) (next_of st₂.filling) t → FilledTo G st s (k + 1) st₂ × (0 < k + 1 → k + 1 < size_of st)
+      still_open o e =
+          let more = one_more st₂ l put step in
+          let p = open_at (size_of st₁) (next_of st₂.filling) t o e in
+          (more, λ _. omega (arith, p.0, F.size, ap next_of more.filling))
 
-pub open_at : (n next t : ℕ) (o : TicketOf 0) → Open o ≡ ticket_after n next t → (next < n) × (o.station ≡ t)
-open_at n next t o e = go (ltb next n) refl e
-  where
-    go : (b : Bool) → ltb next n ≡ b → Open o ≡ cond b (Open (record { station = t })) (Full (record { station = t })) → (next < n) × (o.station ≡ t)
-    go true h q = (ltb-true next n h, let r : o ≡ record { station = t } = cc in ap (λ x. x.station) r)
-    go false h q = let z : ◌≡◌ {A = ℕ} 0 1 = cc in absurd (omega arith)
-
--- a call is not both refused and accepted
-pub clash : {f : Fault} → ◌≡◌ {A = Result (Unit {0}) Fault} (Err f) (Ok tt) → ⊥
-clash e = let z : ◌≡◌ {A = ℕ} 0 1 = cc in omega arith
+      pub now_full : (f : TicketOf 1) → Full f ≡ ticket_after (size_of st₁) (next_of st₂.filling) t → t ≡ s → FilledUp G st s (Ok f) st₂
+      now_full f e h =
+          let more = one_more st₂ l put step in
+          let p = full_at (size_of st₁) (next_of st₂.filling) t f e in
+          let end : k + 1 ≡ size_of st = omega (arith, p.0, F.size, more.within, ap next_of more.filling) in
+          (p.1 ∙ h, subst (λ j. FilledTo G st s j st₂) end more)

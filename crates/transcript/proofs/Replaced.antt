@@ -39,7 +39,7 @@ fits st s e = record { station = grind (arith, nat_tests, ok); out = grind (arit
     few_of None h = grind (arith, nat_tests, h)
     few_of (Some u) h = absurd (both_ways false refl h)
 
-module _ {B : Type 0} (G : Group B) (st st₁ : State B) (s : ℕ) (fit : Fits st s) (R : Remarked st.store s false st₁.store) (begun : st₁.filling ≡ filling_at s 0) where
+module _ {B : Type 0} (st st₁ : State B) (s : ℕ) (fit : Fits st s) (R : Remarked st.store s false st₁.store) (begun : st₁.filling ≡ filling_at s 0) where
   out_there : st₁.store.out s ≡ false
   out_there = R.out s fit.station ∙ cond-true (eqb s s) false (st.store.out s) (eq-eqb s s refl)
 
@@ -60,7 +60,7 @@ module _ {B : Type 0} (G : Group B) (st st₁ : State B) (s : ℕ) (fit : Fits s
     long = omega (arith, l, ap (λ n. 8 * n) R.size);
   }
 
-  module _ (st₂ : State B) (F : FilledTo G st₁ s (size_of st₁) st₂) where
+  module _ (G : Group B) (st₂ : State B) (F : FilledTo G st₁ s (size_of st₁) st₂) where
     -- and then finished
     pub can_finish : finish_answer st₂ s ≡ Ok tt
     can_finish =

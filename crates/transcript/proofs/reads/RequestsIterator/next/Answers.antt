@@ -1,9 +1,20 @@
-use Rattle.std.proofs.Common.{◌+◌, length, Err, sym, ap, ◌∙◌, arith}
+use Rattle.std.proofs.Common.{◌≡◌, ◌∷◌, length, Some, Result, ap, arith}
+use Rattle.std.specs.Iterator.{MakesProgress, item_count}
+use Rattle.std.specs.declared.iter.Iterator.{can_next-default}
+use Rattle.faults.specs.declared.faults.Fault.{Fault}
+use Rattle.kinds.specs.declared.blocks.Block.{Block}
 use Rattle.orders.specs.Records.{ordered}
-use Rattle.transcript.specs.Sessions.{request_as, next_at}
+use Rattle.transcript.specs.Reads.{requests_left}
+use Rattle.transcript.specs.declared.reads.Requests.{Requests}
+use Rattle.transcript.specs.declared.requests.Request.{Request}
 use Rattle.transcript.proofs.Records.{record_within, next_after}
 use Rattle.transcript.proofs.ReadOn.{from_next}
 use Rattle.transcript.proofs.reads.RequestsIterator.next.Goals as goal
+
+-- a call that gives the first of the requests that are left goes on
+goes : (r r' : Requests) (q : Result (Request Block) Fault) → requests_left r ≡ q ∷ requests_left r'
+    → MakesProgress (can_next-default Requests (Result (Request Block) Fault)) (item_count requests_left) r (Some q) r'
+goes r r' q e = let l = ap length e in record { on = λ fin. (tt, fin, omega (arith, l)); keeps = tt; rests = λ _. tt }
 
 pub overflow_add-self : goal.overflow_add-self
 overflow_add-self c =
@@ -11,23 +22,13 @@ overflow_add-self c =
     omega (arith, record_within r.input.now r.at c.in-Ok.record.len (ordered c.in-Ok.record.order) c.in-Ok.ensures)
 
 pub returns-in-Ok-clause-steps : goal.returns-in-Ok-clause-steps
-returns-in-Ok-clause-steps c =
-    let r = c.args.self.now in
-    let input = r.input.now in
-    let k = c.in-Ok.record in
-    from_next input r.at (r.at + k.len) c.request_of.result c.if-self.false (c.request_of.ensures ∙ ap request_as c.in-Ok.ensures)
-    (sym (ap (next_at input r.at) (sym c.in-Ok.ensures) ∙ next_after input r.at k.len (ordered k.order)))
+returns-in-Ok-clause-steps c = from_next _ _ _ _ c.if-self.false (rw (c.request_of.ensures, c.in-Ok.ensures)) (rw (← c.in-Ok.ensures, next_after))
 
 pub returns-in-Ok-clause-goes : goal.returns-in-Ok-clause-goes
-returns-in-Ok-clause-goes c =
-    let e = ap length (returns-in-Ok-clause-steps c) in record { on = λ fin. (tt, fin, omega (arith, e)); keeps = tt; rests = λ _. tt }
+returns-in-Ok-clause-goes c = goes _ _ _ (returns-in-Ok-clause-steps c)
 
 pub returns-in-Err-clause-steps : goal.returns-in-Err-clause-steps
-returns-in-Err-clause-steps c =
-    let r = c.args.self.now in
-    let input = r.input.now in
-    from_next input r.at (length input) (Err c.in-Err.fault) c.if-self.false (ap request_as c.in-Err.ensures) (ap (next_at input r.at) c.in-Err.ensures)
+returns-in-Err-clause-steps c = from_next _ _ _ _ c.if-self.false (rw (← c.in-Err.ensures)) (rw (← c.in-Err.ensures))
 
 pub returns-in-Err-clause-goes : goal.returns-in-Err-clause-goes
-returns-in-Err-clause-goes c =
-    let e = ap length (returns-in-Err-clause-steps c) in record { on = λ fin. (tt, fin, omega (arith, e)); keeps = tt; rests = λ _. tt }
+returns-in-Err-clause-goes c = goes _ _ _ (returns-in-Err-clause-steps c)
