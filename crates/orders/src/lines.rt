@@ -31,6 +31,7 @@ pub const LONGEST: usize = 135;
 // line in an area that is long enough is not refused.
 type Line = ArrayString<LONGEST>;
 
+// These lines have no end yet, and room for it.
 fn block_line(block: Block) -> Line
     ensures text { result.bytes ≡ block_text block }
     ensures short { array_string_len result < 135 }
@@ -74,7 +75,7 @@ fn refusal_line(fault: Fault) -> Line
     line
 }
 
-// The line without its end.
+// Likewise of any reply.
 fn reply_line(reply: Reply<Block>) -> Line
     ensures text { result.bytes ≡ reply_text reply }
     ensures short { array_string_len result < 135 }
