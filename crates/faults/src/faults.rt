@@ -74,76 +74,51 @@ pub enum Fault {
 }
 
 impl Fault {
+    // What it says: its number, the layer in which it began, and its place.
+    fn slip(self) -> (u8, Layer, usize)
+        ensures { result ≡ (number_of self, layer_of self, place_of self) }
+    {
+        match self {
+            Fault::NotASize(n) => (1, Layer::Book, usize::from(n)),
+            Fault::OutAtOpen(s) => (2, Layer::Book, usize::from(s)),
+            Fault::AreaTooShort(len) => (3, Layer::Book, len),
+            Fault::NoSuchStation(s) => (4, Layer::Store, usize::from(s)),
+            Fault::CheckPair(s) => (5, Layer::Book, usize::from(s)),
+            Fault::AlreadyAbsent(s) => (6, Layer::Book, usize::from(s)),
+            Fault::AlreadyOut(s) => (6, Layer::Store, usize::from(s)),
+            Fault::NotOut(s) => (7, Layer::Book, usize::from(s)),
+            Fault::AlreadyIn(s) => (7, Layer::Store, usize::from(s)),
+            Fault::FillingUnderWay(s) => (8, Layer::Book, usize::from(s)),
+            Fault::TooManyAbsent(count) => (9, Layer::Book, usize::from(count)),
+            Fault::TicketRefused(s) => (10, Layer::Book, usize::from(s)),
+            Fault::StationOut(s) => (11, Layer::Store, usize::from(s)),
+            Fault::AbsentAtAudit(s) => (12, Layer::Book, usize::from(s)),
+            Fault::WrongLength(len) => (13, Layer::Record, len),
+            Fault::WrongVersion(at) => (14, Layer::Record, at),
+            Fault::StrayMarks => (15, Layer::Record, 6),
+            Fault::CutShort(at) => (16, Layer::Record, at),
+            Fault::UnknownLetter(at) => (17, Layer::Record, at),
+            Fault::WrongRecordLength(at) => (18, Layer::Record, at),
+            Fault::SessionTooLong => (19, Layer::Record, 16384),
+        }
+    }
+
     pub fn number(self) -> u8
         ensures { result ≡ number_of self }
     {
-        match self {
-            Fault::NotASize(_) => 1,
-            Fault::OutAtOpen(_) => 2,
-            Fault::AreaTooShort(_) => 3,
-            Fault::NoSuchStation(_) => 4,
-            Fault::CheckPair(_) => 5,
-            Fault::AlreadyAbsent(_) | Fault::AlreadyOut(_) => 6,
-            Fault::NotOut(_) | Fault::AlreadyIn(_) => 7,
-            Fault::FillingUnderWay(_) => 8,
-            Fault::TooManyAbsent(_) => 9,
-            Fault::TicketRefused(_) => 10,
-            Fault::StationOut(_) => 11,
-            Fault::AbsentAtAudit(_) => 12,
-            Fault::WrongLength(_) => 13,
-            Fault::WrongVersion(_) => 14,
-            Fault::StrayMarks => 15,
-            Fault::CutShort(_) => 16,
-            Fault::UnknownLetter(_) => 17,
-            Fault::WrongRecordLength(_) => 18,
-            Fault::SessionTooLong => 19,
-        }
+        self.slip().0
     }
 
     pub fn layer(self) -> Layer
         ensures { result ≡ layer_of self }
     {
-        match self {
-            Fault::NoSuchStation(_)
-            | Fault::AlreadyOut(_)
-            | Fault::AlreadyIn(_)
-            | Fault::StationOut(_) => Layer::Store,
-            Fault::WrongLength(_)
-            | Fault::WrongVersion(_)
-            | Fault::StrayMarks
-            | Fault::CutShort(_)
-            | Fault::UnknownLetter(_)
-            | Fault::WrongRecordLength(_)
-            | Fault::SessionTooLong => Layer::Record,
-            _ => Layer::Book,
-        }
+        self.slip().1
     }
 
     pub fn place(self) -> usize
         ensures { result ≡ place_of self }
     {
-        match self {
-            Fault::NotASize(place)
-            | Fault::OutAtOpen(place)
-            | Fault::NoSuchStation(place)
-            | Fault::CheckPair(place)
-            | Fault::AlreadyAbsent(place)
-            | Fault::AlreadyOut(place)
-            | Fault::NotOut(place)
-            | Fault::AlreadyIn(place)
-            | Fault::FillingUnderWay(place)
-            | Fault::TooManyAbsent(place)
-            | Fault::TicketRefused(place)
-            | Fault::StationOut(place)
-            | Fault::AbsentAtAudit(place) => usize::from(place),
-            Fault::AreaTooShort(len) | Fault::WrongLength(len) => len,
-            Fault::WrongVersion(at)
-            | Fault::CutShort(at)
-            | Fault::UnknownLetter(at)
-            | Fault::WrongRecordLength(at) => at,
-            Fault::StrayMarks => 6,
-            Fault::SessionTooLong => 16384,
-        }
+        self.slip().2
     }
 
     // Whether they say the same, which no two different faults do.
@@ -161,9 +136,8 @@ impl fmt::Display for Fault {
     ghost output = { λ f. Some (written f) };
 
     fn fmt<W: fmt::Write>(&self, f: &mut fmt::Formatter<W>) -> fmt::Result {
-        let number = self.number();
-        let letter = self.layer().letter();
-        let place = self.place();
+        let (number, layer, place) = self.slip();
+        let letter = layer.letter();
         write!(f, "{number} {letter} {place}")
     }
 }

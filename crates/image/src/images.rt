@@ -2,7 +2,7 @@
 ghost use Rattle.std.specs.Prelude.{◌≡◌, ◌+◌, ◌*◌, ◌<◌, ◌≤◌, true, false, length, is_ok};
 ghost use Rattle.code.specs.Sizes.{pairs as pair_count};
 ghost use Rattle.image.specs.Images.{image_check, image_size, image_marks, image_meaning, Overwritten, Filled, IsImage, PassesImages, PutImage, TakeImage, BringImage, be_bytes};
-ghost use Rattle.store.specs.Meaning.{AfterPut, AfterMark, get_answer, take_out_answer, bring_in_answer};
+ghost use Rattle.store.specs.Meaning.{AfterPut, AfterMark};
 
 use crate::layout::offset_of;
 use crate::read_images::ReadImage;
@@ -92,7 +92,6 @@ impl ReadStore for Image<'_> {
 
 impl WriteStore for Image<'_> {
     fn put(&mut self, a: u8, b: u8, x: Block) -> Result<(), Fault>
-        ensures answer { result ≡ get_answer (image_meaning self.old.bytes.now) a b }
         ensures after { AfterPut (image_meaning self.old.bytes.now) a b x result (image_meaning self.new.bytes.now) }
         ensures bytes { PutImage self.old.bytes.now a b x result self.new.bytes.now }
         ensures lent { self.new.bytes.ghost_name ≡ self.old.bytes.ghost_name }
@@ -103,7 +102,6 @@ impl WriteStore for Image<'_> {
     }
 
     fn take_out(&mut self, s: u8) -> Result<(), Fault>
-        ensures answer { result ≡ take_out_answer (image_meaning self.old.bytes.now) s }
         ensures after { AfterMark (image_meaning self.old.bytes.now) s true result (image_meaning self.new.bytes.now) }
         ensures bytes { TakeImage self.old.bytes.now s result self.new.bytes.now }
         ensures lent { self.new.bytes.ghost_name ≡ self.old.bytes.ghost_name }
@@ -116,7 +114,6 @@ impl WriteStore for Image<'_> {
     }
 
     fn bring_in(&mut self, s: u8) -> Result<(), Fault>
-        ensures answer { result ≡ bring_in_answer (image_meaning self.old.bytes.now) s }
         ensures after { AfterMark (image_meaning self.old.bytes.now) s false result (image_meaning self.new.bytes.now) }
         ensures bytes { BringImage self.old.bytes.now s result self.new.bytes.now }
         ensures lent { self.new.bytes.ghost_name ≡ self.old.bytes.ghost_name }

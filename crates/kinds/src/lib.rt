@@ -9,3 +9,4 @@ pub mod xor;
 
 pub use blocks::Block;
 pub use kinds::BlockKind;
+pub use texts::byte_digits;

@@ -1,9 +1,9 @@
-// The 64-byte block as text.
-ghost use Rattle.std.specs.Prelude.{◌≡◌, ◌<◌, Some, IsAscii};
+// Bytes as hexadecimal digits, and the 64-byte block as text.
+ghost use Rattle.std.specs.Prelude.{◌≡◌, ◌<◌, [], ◌∷◌, Some, IsAscii};
 ghost use Rattle.kinds.specs.Texts.{hex_digit, hex_text};
 
 use crate::blocks::Block;
-use std::{fmt, str};
+use std::{array, fmt, str};
 
 // The digit of a number below 16.
 fn digit(d: u8) -> u8
@@ -14,19 +14,22 @@ fn digit(d: u8) -> u8
     if d < 10 { b'0' + d } else { b'a' + (d - 10) }
 }
 
+// A byte as two lowercase hexadecimal digits, the high one first.
+pub fn byte_digits(byte: u8) -> [u8; 2]
+    ensures digits { result ≡ hex_text (byte ∷ []) }
+    ensures ascii { IsAscii result }
+{
+    [digit(byte / 16), digit(byte % 16)]
+}
+
 impl Block {
     // Two lowercase hexadecimal digits for each byte, the high one first.
     pub fn hex_digits(&self) -> [u8; 128]
         ensures digits { result ≡ hex_text self.now.bytes }
         ensures ascii { IsAscii result }
     {
-        let mut digits = [0; 128];
-        // Two places for each byte: chunks of two, zipped with the bytes, read no plainer.
-        for (i, byte) in self.as_bytes().iter().enumerate() {
-            digits[2 * i] = digit(*byte / 16);
-            digits[2 * i + 1] = digit(*byte % 16);
-        }
-        digits
+        let bytes = self.as_bytes();
+        array::from_fn(|i| byte_digits(bytes[i / 2])[i % 2])
     }
 }
 

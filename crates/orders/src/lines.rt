@@ -1,12 +1,16 @@
 // Lines of output: what is answered to an order, as text.
-ghost use Rattle.std.specs.Prelude.{◌≡◌, ◌<◌, ◌≤◌, length, is_ok, if◌then◌else◌, decimal};
+ghost use Rattle.std.specs.Prelude.{◌≡◌, ◌<◌, length, is_ok, if◌then◌else◌};
+ghost use Rattle.arrayvec.specs.ArrayString.{array_string_len};
 ghost use Rattle.orders.specs.Lines.{laid, block_text, reply_text, line, line_answer};
 ghost use Rattle.audit.specs.Audits.{verdict_text};
 ghost use Rattle.faults.specs.Refusals.{refusal_text};
 
+use arrayvec::ArrayString;
 use audit::Verdict;
 use faults::Fault;
+use itoa::Buffer;
 use kinds::Block;
+use std::str;
 
 // What is answered to an order: a line has one of four forms. A refusal is one of them, and no error of whoever lays lines.
 #[derive(Clone, Copy, Debug, PartialEq, Eq)]
@@ -23,83 +27,64 @@ pub enum Reply<B> {
 // The length of the longest line: that of a block, with its line end.
 pub const LONGEST: usize = 135;
 
-// Lays a text at the front of an area, and answers its length. It is no `write!`: no contract says that a `Display` comes
-// to its end, and a line in an area that is long enough is not refused.
-fn lay(text: &[u8], area: &mut [u8]) -> usize
-    requires { length text.now ≤ length area.old }
-    ensures length { result ≡ length text.now }
-    ensures area { area.new ≡ laid text.now area.old }
+// A line as it grows, in fixed memory. It is written by no `write!`: no contract says that a `Display` comes to its end, and a
+// line in an area that is long enough is not refused.
+type Line = ArrayString<LONGEST>;
+
+// These lines have no end yet, and room for it.
+fn block_line(block: Block) -> Line
+    ensures text { result.bytes ≡ block_text block }
+    ensures short { array_string_len result < 135 }
 {
-    area[..text.len()].copy_from_slice(text);
-    text.len()
+    let mut line = Line::new();
+    line.push_str("block ");
+    line.push_str(str::from_utf8(&block.hex_digits()).unwrap());
+    line
 }
 
-// The same with a number in decimal digits.
-#[tactic(auto, using(std::proofs::lemmas::Fmt::decimal_digit, std::proofs::lemmas::Fmt::decimal_step, crate::proofs::Laid::length_step))]
-fn lay_number(n: usize, area: &mut [u8]) -> usize
-    requires { length (decimal n) ≤ length area.old }
-    ensures length { result ≡ length (decimal n) }
-    ensures area { area.new ≡ laid (decimal n) area.old }
+fn verdict_line(verdict: Verdict) -> Line
+    ensures text { result.bytes ≡ verdict_text verdict }
+    ensures short { array_string_len result < 135 }
 {
-    if n < 10 {
-        return lay(&[b'0' + n as u8], area);
-    }
-    let end = lay_number(n / 10, area);
-    end + lay(&[b'0' + (n % 10) as u8], &mut area[end..])
-}
-
-fn lay_block(block: Block, area: &mut [u8; LONGEST]) -> usize
-    ensures length { result ≡ length (block_text block) }
-    ensures short { result < 135 }
-    ensures area { area.new ≡ laid (block_text block) area.old }
-{
-    let end = lay(b"block ", area);
-    end + lay(&block.hex_digits(), &mut area[end..])
-}
-
-#[tactic(auto, using(crate::proofs::Laid::short_decimal))]
-fn lay_verdict(verdict: Verdict, area: &mut [u8; LONGEST]) -> usize
-    ensures length { result ≡ length (verdict_text verdict) }
-    ensures short { result < 135 }
-    ensures area { area.new ≡ laid (verdict_text verdict) area.old }
-{
+    let mut line = Line::new();
     match verdict {
-        Verdict::Sound => lay(b"sound", area),
+        Verdict::Sound => line.push_str("sound"),
         Verdict::BrokenNeighbourhood(h) => {
-            let end = lay(b"broken S ", area);
-            end + lay_number(usize::from(h), &mut area[end..])
+            line.push_str("broken S ");
+            line.push_str(Buffer::new().format(h));
         }
         Verdict::BrokenDiagonal(m) => {
-            let end = lay(b"broken D ", area);
-            end + lay_number(usize::from(m), &mut area[end..])
+            line.push_str("broken D ");
+            line.push_str(Buffer::new().format(m));
         }
     }
+    line
 }
 
-#[tactic(auto, using(crate::proofs::Laid::short_decimal))]
-fn lay_refusal(fault: Fault, area: &mut [u8; LONGEST]) -> usize
-    ensures length { result ≡ length (refusal_text fault) }
-    ensures short { result < 135 }
-    ensures area { area.new ≡ laid (refusal_text fault) area.old }
+fn refusal_line(fault: Fault) -> Line
+    ensures text { result.bytes ≡ refusal_text fault }
+    ensures short { array_string_len result < 135 }
 {
-    let letter = fault.layer().letter() as u8;
-    let mut end = lay(b"no ", area);
-    end += lay_number(usize::from(fault.number()), &mut area[end..]);
-    end += lay(&[b' ', letter, b' '], &mut area[end..]);
-    end + lay_number(fault.place(), &mut area[end..])
+    let mut line = Line::new();
+    line.push_str("no ");
+    line.push_str(Buffer::new().format(fault.number()));
+    line.push(' ');
+    line.push(fault.layer().letter());
+    line.push(' ');
+    line.push_str(Buffer::new().format(fault.place()));
+    line
 }
 
-// The line without its end.
-fn lay_reply(reply: Reply<Block>, area: &mut [u8; LONGEST]) -> usize
-    ensures length { result ≡ length (reply_text reply) }
-    ensures short { result < 135 }
-    ensures area { area.new ≡ laid (reply_text reply) area.old }
+// Likewise of any reply.
+fn reply_line(reply: Reply<Block>) -> Line
+    ensures text { result.bytes ≡ reply_text reply }
+    ensures short { array_string_len result < 135 }
 {
     match reply {
-        Reply::Block(block) => lay_block(block, area),
-        Reply::Done => lay(b"done", area),
-        Reply::Found(verdict) => lay_verdict(verdict, area),
-        Reply::Refused(fault) => lay_refusal(fault, area),
+        Reply::Block(block) => block_line(block),
+        Reply::Done => Line::from("done").unwrap(),
+        Reply::Found(verdict) => verdict_line(verdict),
+        Reply::Refused(fault) => refusal_line(fault),
     }
 }
 
@@ -109,10 +94,11 @@ pub fn lay_line(reply: &Reply<Block>, into: &mut [u8]) -> Result<usize, Fault>
     ensures answer { result ≡ line_answer (length into.old) reply.now }
     ensures into { into.new ≡ (if is_ok result then laid (line reply.now) into.old else into.old) }
 {
-    let len = into.len();
-    let Some(area) = into.first_chunk_mut::<LONGEST>() else {
-        return Err(Fault::AreaTooShort(len));
-    };
-    let end = lay_reply(*reply, area);
-    Ok(end + lay(b"\n", &mut area[end..]))
+    if into.len() < LONGEST {
+        return Err(Fault::AreaTooShort(into.len()));
+    }
+    let mut line = reply_line(*reply);
+    line.push('\n');
+    into[..line.len()].copy_from_slice(line.as_bytes());
+    Ok(line.len())
 }

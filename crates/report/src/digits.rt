@@ -1,27 +1,19 @@
 // Bytes of any length as hexadecimal digits. A block's own digits are its `Display`.
-ghost use Rattle.std.specs.Prelude.{◌≡◌, ◌<◌, IfOk, string_bytes};
-ghost use Rattle.kinds.specs.Texts.{hex_digit, hex_text as digits_of};
+ghost use Rattle.std.specs.Prelude.{◌≡◌, IfOk, string_bytes};
+ghost use Rattle.kinds.specs.Texts.{hex_text as digits_of};
 
+use kinds::byte_digits;
 use std::alloc::{AllocError, Global};
-
-// The digit of a number below 16.
-fn digit(d: u8) -> char
-    requires { d < 16 }
-    ensures digit { result ≡ hex_digit d }
-    ensures ascii { result < 128 }
-{
-    let code = if d < 10 { b'0' + d } else { b'a' + (d - 10) };
-    code as char
-}
+use std::str;
 
 // Each byte as two digits, the higher first.
+#[tactic(auto, using(crate::proofs::Hexes::hex_more))]
 pub fn hex_text(heap: Global, bytes: &[u8]) -> Result<String, AllocError>
     ensures { IfOk result (λ t. string_bytes t ≡ digits_of bytes.now) }
 {
     let mut text = String::new(heap);
     for byte in bytes {
-        text.push(digit(*byte / 16))?;
-        text.push(digit(*byte % 16))?;
+        text.push_str(str::from_utf8(&byte_digits(*byte)).unwrap())?;
     }
     Ok(text)
 }

@@ -2,3 +2,4 @@ pub mod Meaning
 pub mod Standing
 pub mod Tables
 pub mod Rolls
+pub mod TableMeanings

@@ -2,7 +2,7 @@
 ghost use Rattle.std.specs.Prelude.{◌≡◌, ◌<◌, ◌≤◌, true, false, length, is_ok, slice_index_or, slice_set};
 ghost use Rattle.code.specs.Sizes.{pairs as pair_count};
 ghost use Rattle.store.specs.Meaning.{AfterPut, AfterMark, get_answer, take_out_answer, bring_in_answer};
-ghost use Rattle.store.specs.Tables.{table_check, table_meaning};
+ghost use Rattle.store.specs.Tables.{table_check};
 
 use crate::rolls::Roll;
 use crate::stores::{ReadStore, WriteStore};
@@ -65,9 +65,12 @@ impl<'a, B: BlockKind> Table<'a, B> {
 }
 
 impl<B: BlockKind> ReadStore for Table<'_, B> {
+    // A definition that names the type is brought in beside it.
+    ghost use Rattle.store.specs.TableMeanings.{means_of};
+
     type Block = B;
 
-    ghost means = { λ t. table_meaning B.group.none t.roll.size.number t.roll.out.bits t.row.now };
+    ghost means = { means_of B.group.none };
 
     fn size(&self) -> Size {
         self.roll.size
@@ -85,9 +88,11 @@ impl<B: BlockKind> ReadStore for Table<'_, B> {
 }
 
 impl<B: BlockKind> WriteStore for Table<'_, B> {
+    ghost use Rattle.store.specs.TableMeanings.{means_of};
+
     fn put(&mut self, a: u8, b: u8, x: B) -> Result<(), Fault>
-        ensures answer { result ≡ get_answer (table_meaning B.group.none self.old.roll.size.number self.old.roll.out.bits self.old.row.now) a b }
-        ensures after { AfterPut (table_meaning B.group.none self.old.roll.size.number self.old.roll.out.bits self.old.row.now) a b x result (table_meaning B.group.none self.new.roll.size.number self.new.roll.out.bits self.new.row.now) }
+        ensures answer { result ≡ get_answer (means_of B.group.none self.old) a b }
+        ensures after { AfterPut (means_of B.group.none self.old) a b x result (means_of B.group.none self.new) }
         ensures lent { self.new.row.ghost_name ≡ self.old.row.ghost_name }
     {
         self.roll.admit_pair(a, b)?;
@@ -96,16 +101,16 @@ impl<B: BlockKind> WriteStore for Table<'_, B> {
     }
 
     fn take_out(&mut self, s: u8) -> Result<(), Fault>
-        ensures answer { result ≡ take_out_answer (table_meaning B.group.none self.old.roll.size.number self.old.roll.out.bits self.old.row.now) s }
-        ensures after { AfterMark (table_meaning B.group.none self.old.roll.size.number self.old.roll.out.bits self.old.row.now) s true result (table_meaning B.group.none self.new.roll.size.number self.new.roll.out.bits self.new.row.now) }
+        ensures answer { result ≡ take_out_answer (means_of B.group.none self.old) s }
+        ensures after { AfterMark (means_of B.group.none self.old) s true result (means_of B.group.none self.new) }
         ensures lent { self.new.row.ghost_name ≡ self.old.row.ghost_name }
     {
         self.roll.take_out(s)
     }
 
     fn bring_in(&mut self, s: u8) -> Result<(), Fault>
-        ensures answer { result ≡ bring_in_answer (table_meaning B.group.none self.old.roll.size.number self.old.roll.out.bits self.old.row.now) s }
-        ensures after { AfterMark (table_meaning B.group.none self.old.roll.size.number self.old.roll.out.bits self.old.row.now) s false result (table_meaning B.group.none self.new.roll.size.number self.new.roll.out.bits self.new.row.now) }
+        ensures answer { result ≡ bring_in_answer (means_of B.group.none self.old) s }
+        ensures after { AfterMark (means_of B.group.none self.old) s false result (means_of B.group.none self.new) }
         ensures lent { self.new.row.ghost_name ≡ self.old.row.ghost_name }
     {
         self.roll.bring_in(s)

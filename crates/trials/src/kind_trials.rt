@@ -1,5 +1,5 @@
 // The laws of block kinds on some blocks.
-use kinds::{Block, BlockKind};
+use kinds::{Block, BlockKind, byte_digits};
 use std::array;
 use std::process::Abort;
 
@@ -53,4 +53,22 @@ fn blocks(rt: HostRuntime) {
         *Block::from([12; 64]).add(Block::from([10; 64])).as_bytes(),
         [6; 64]
     );
+}
+
+// The two digits of some bytes.
+const DIGITS: [(u8, [u8; 2]); 7] = [
+    (0, *b"00"),
+    (9, *b"09"),
+    (10, *b"0a"),
+    (0x9f, *b"9f"),
+    (0xa0, *b"a0"),
+    (0xc3, *b"c3"),
+    (255, *b"ff"),
+];
+
+#[test]
+fn digits(rt: HostRuntime) {
+    for (byte, digits) in DIGITS {
+        assert_eq!(rt; byte_digits(byte), digits, "{}", byte);
+    }
 }
