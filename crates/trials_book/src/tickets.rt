@@ -118,10 +118,10 @@ pub fn fill_up<S: WriteStore>(
 // Finishes by a full ticket, or hands the ticket back.
 pub fn finish_by<S: WriteStore>(book: &mut Book<S>, ticket: Ticket) -> Result<(), Handed> {
     match ticket {
-        Ticket::Full(full) => match book.finish(full) {
-            Ok(()) => Ok(()),
-            Err((back, fault)) => Err((Ticket::Full(back), Some(fault))),
-        },
+        Ticket::Full(full) => {
+            let answer = book.finish(full);
+            answer.map_err(|(back, fault)| (Ticket::Full(back), Some(fault)))
+        }
         Ticket::Open(open) => Err((Ticket::Open(open), None)),
     }
 }
