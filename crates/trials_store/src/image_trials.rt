@@ -1,5 +1,5 @@
 // Images of five stations: what a call refuses, and which bytes it changes.
-use crate::calls::{REFUSALS, Refusal, news, put_all};
+use crate::calls::{news, put_all, refusals};
 use crate::samples::{PAIRS, blocks_of, image_of, sample_row};
 use faults::Fault;
 use image::{Image, ReadImage, check_image};
@@ -16,11 +16,11 @@ fn image_in(bytes: &mut [u8; 970]) -> Result<Image<'_>, Fault> {
 
 #[test]
 fn calls_refused(rt: HostRuntime) -> Result<(), Fail> {
-    for (out, call, fault) in REFUSALS {
-        let before = image_of(&sample_row(), out);
+    for refusal in refusals() {
+        let before = image_of(&sample_row(), refusal.out);
         let mut bytes = before;
-        Refusal { out, call, fault }.holds_on(&rt, &mut image_in(&mut bytes)?);
-        assert!(rt; bytes == before, "{:?}", call);
+        refusal.holds_on(&rt, &mut image_in(&mut bytes)?);
+        assert!(rt; bytes == before, "{:?}", refusal.call);
     }
     Ok(())
 }
