@@ -17,6 +17,7 @@ pub enum Standing {
 
 #[derive(Drop)]
 pub struct Model {
+    // the length of `stations`, as a station number
     n: u8,
     stations: Vec<Standing>,
     written: Vec<Block>,

@@ -19,7 +19,7 @@ const AREA: usize = 40;
 // The data pairs.
 const PAIRS: [(u8, u8); 6] = [(0, 0), (1, 0), (1, 1), (0, 2), (2, 1), (2, 2)];
 
-// A block of its own for each number below 251.
+// A block of its own for each number below 251. The trials of the stores have it too, and say why.
 fn sample(k: usize) -> Block {
     let byte = |i: usize| (k.wrapping_mul(37).wrapping_add(i.wrapping_mul(11)) % 251) as u8;
     Block::from(array::from_fn(byte))

@@ -92,6 +92,8 @@ pub fn play(heap: Global, lists: &[&[Call<bool>]]) -> Result<Left, Fail> {
     let mut open = leave_open();
     let mut row = [true; 15];
     let mut work = [true; 40];
+    // Here as in each trial a row is checked and made a table: the check does not follow a `Result` of a table, which a
+    // function for both would answer.
     check_table(5, &row)?;
     let table = Table::make(5, &mut row);
     let list = turns.as_mut_slice();

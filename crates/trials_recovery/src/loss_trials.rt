@@ -1,10 +1,9 @@
 // Recovery and audit of an image after two of its stations were taken out.
 use crate::lawful::{FIVE, lawful_row};
 use crate::recover_trials::recovers_each;
-use crate::show_trials::lay_image;
+use crate::show_trials::{image_in, lay_image};
 use audit::{Verdict, audit};
 use faults::Fault;
-use image::{Image, check_image};
 use kinds::{Block, BlockKind};
 use std::process::Abort;
 use std::test::Fail;
@@ -19,8 +18,7 @@ fn loses(
     j: u8,
     row: &[Block; 28],
 ) -> Result<(), Fail> {
-    check_image(bytes)?;
-    let mut image = Image::make(bytes);
+    let mut image = image_in(bytes)?;
     assert_eq!(rt; audit(&image), Ok(Verdict::Sound), "{}", i);
     image.take_out(i)?;
     assert_eq!(rt; audit(&image), Err(Fault::AbsentAtAudit(i)));

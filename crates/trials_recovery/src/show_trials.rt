@@ -10,12 +10,17 @@ use std::process::Abort;
 use std::test::Fail;
 use store::WriteStore;
 
+// The image that bytes are.
+pub fn image_in(bytes: &mut [u8]) -> Result<Image<'_>, Fault> {
+    check_image(bytes)?;
+    Ok(Image::make(bytes))
+}
+
 // Lays a row of blocks into the bytes of an image of five stations.
 pub fn lay_image(row: &[Block; 28], bytes: &mut [u8]) -> Result<(), Fail> {
     let header = bytes.first_chunk_mut().ok_or("no header")?;
     *header = [1, 0, 0, 3, 0xC5, 5, 0, 0, 0, 0];
-    check_image(bytes)?;
-    let mut image = Image::make(bytes);
+    let mut image = image_in(bytes)?;
     for (p, block) in row.iter().take(15).enumerate() {
         let pair = pair_at(p).ok_or("no such place")?;
         image.put(pair.larger, pair.smaller, *block)?;
@@ -26,8 +31,7 @@ pub fn lay_image(row: &[Block; 28], bytes: &mut [u8]) -> Result<(), Fail> {
 // The same, with stations 1 and 4 lost.
 fn lay_lost(row: &[Block; 28], bytes: &mut [u8]) -> Result<(), Fail> {
     lay_image(row, bytes)?;
-    check_image(bytes)?;
-    let mut image = Image::make(bytes);
+    let mut image = image_in(bytes)?;
     image.take_out(1)?;
     image.take_out(4)?;
     Ok(())

@@ -77,6 +77,9 @@ fn three_absent(rt: HostRuntime) -> Result<(), Fail> {
     plays(&rt, 5, &script)
 }
 
+// The data pairs of five stations, the larger station first.
+const DATA_PAIRS: [(u8, u8); 6] = [(0, 0), (1, 0), (1, 1), (2, 0), (2, 1), (2, 2)];
+
 // A byte of its own for each data pair of five stations, in a round of writes.
 fn byte_of(round: u8, a: u8, b: u8) -> u8 {
     round.wrapping_add(a.wrapping_mul(4)).wrapping_add(b)
@@ -84,20 +87,16 @@ fn byte_of(round: u8, a: u8, b: u8) -> u8 {
 
 // Writes every data pair, the larger station first.
 fn write_all(script: &mut Vec<(Record, Line)>, round: u8) -> Result<(), AllocError> {
-    for a in 0..3 {
-        for b in 0..=a {
-            script.push((Record::Write(a, b, byte_of(round, a, b)), Line::Done))?;
-        }
+    for (a, b) in DATA_PAIRS {
+        script.push((Record::Write(a, b, byte_of(round, a, b)), Line::Done))?;
     }
     Ok(())
 }
 
 // Reads them back, the smaller station first.
 fn read_all(script: &mut Vec<(Record, Line)>, round: u8) -> Result<(), AllocError> {
-    for a in 0..3 {
-        for b in 0..=a {
-            script.push((Record::Read(b, a), Line::Shows(byte_of(round, a, b))))?;
-        }
+    for (a, b) in DATA_PAIRS {
+        script.push((Record::Read(b, a), Line::Shows(byte_of(round, a, b))))?;
     }
     Ok(())
 }

@@ -42,7 +42,7 @@ fn reads_back(rt: &impl Abort, bytes: &[u8]) -> Result<(), Fail> {
         for b in 0..5 {
             let mut got = Block::zero();
             assert_eq!(rt; image.get(a, b, &mut got), Ok(()));
-            assert_eq!(rt; *got.as_bytes(), *news(a.max(b), a.min(b)).as_bytes());
+            assert_eq!(rt; got, news(a.max(b), a.min(b)));
         }
     }
     Ok(())
