@@ -1,5 +1,4 @@
 // What a store lies in: a row of blocks, or the bytes of an image.
-use crate::blocks::holds;
 use crate::elimination::count_pairs;
 use crate::model::Model;
 use crate::scripts::{Outcome, Script};
@@ -40,7 +39,7 @@ impl Area for Vec<Block> {
     }
 
     fn holds(&self, p: usize, block: &Block) -> bool {
-        holds(self.as_slice(), p, block)
+        self.get(p) == Some(block)
     }
 
     fn has_marks(&self, _: &Model) -> bool {
@@ -69,9 +68,10 @@ impl Area for Vec<u8> {
     }
 
     fn holds(&self, p: usize, block: &Block) -> bool {
-        let at = p.saturating_mul(64).saturating_add(10);
-        let part = self.get(at..at.saturating_add(64));
-        part.is_some_and(|part| part == block.as_bytes().as_slice())
+        let Some(blocks) = self.get(10..) else {
+            return false;
+        };
+        blocks.as_chunks().0.get(p) == Some(block.as_bytes())
     }
 
     fn has_marks(&self, model: &Model) -> bool {

@@ -1,5 +1,4 @@
 // Lists of calls on books over a table and over an image: each answer, and what the store holds in the end.
-use crate::answers::first_other;
 use crate::areas::Area;
 use crate::counts::Counts;
 use crate::elimination::{Solution, place_of};
@@ -8,62 +7,83 @@ use crate::scripts::{Bench, Outcome, Script};
 use crate::stops::{Stop, differs};
 use kinds::Block;
 use serve::Rack;
+use std::alloc::Global;
 
-// The opens, the answers and the audit of a list.
-fn compare_answers(
-    list: usize,
-    model: &Model,
-    script: &Script,
-    outcome: &Outcome,
-) -> Result<(), Stop> {
-    let n = model.n();
-    if outcome.opened != Ok(()) {
-        return Err(differs("first open", n, list, 0));
-    }
-    if let Some(turn) = first_other(script.turns.as_slice(), script.answers.as_slice()) {
-        return Err(differs("answer", n, list, turn));
-    }
-    if outcome.reopened != model.open() {
-        return Err(differs("second open", n, list, 0));
-    }
-    if outcome.audit != model.audit() {
-        return Err(differs("audit", n, list, 0));
-    }
-    Ok(())
+// A list of calls that was made on the model and on a book over a new store.
+#[derive(Drop)]
+struct Made<A> {
+    number: usize,
+    model: Model,
+    script: Script,
+    area: A,
+    outcome: Outcome,
 }
 
-// The block that a pair must hold: between standing stations what the last writes ask for.
-fn wanted_block<A: Area>(model: &Model, area: &A, a: u8, b: u8, wanted: &[Block]) -> Option<Block> {
-    if model.is_out(a) || model.is_out(b) {
-        return area.lost_block();
+impl<A: Area + Drop> Made<A> {
+    fn make(bench: &mut Bench, n: u8, number: usize, rack: &mut Rack) -> Result<Self, Stop> {
+        let heap = bench.heap;
+        let mut model = Model::new(heap, n)?;
+        let mut script = bench.write_script(&mut model)?;
+        let mut area = A::new(heap, n)?;
+        let outcome = area.serve(n, &mut script, rack)?;
+        Ok(Made {
+            number,
+            model,
+            script,
+            area,
+            outcome,
+        })
     }
-    if model.is_absent(a) || model.is_absent(b) {
-        return None;
-    }
-    wanted.get(place_of(a, b)).copied()
-}
 
-// What the store holds after a list. Answers how many blocks were compared.
-fn compare_stored<A: Area>(
-    list: usize,
-    model: &Model,
-    area: &A,
-    wanted: &[Block],
-) -> Result<usize, Stop> {
-    let n = model.n();
-    let mut stored: usize = 0;
-    for a in 0..n {
-        for b in 0..=a {
-            if let Some(block) = wanted_block(model, area, a, b, wanted) {
-                let p = place_of(a, b);
-                if !area.holds(p, &block) {
-                    return Err(differs("stored block", n, list, p));
-                }
-                stored = stored.saturating_add(1);
-            }
+    fn differs(&self, what: &'static str, at: usize) -> Stop {
+        differs(what, self.model.n(), self.number, at)
+    }
+
+    // The opens, the answers, the audit and the marks.
+    fn compare_answers(&self) -> Result<(), Stop> {
+        if self.outcome.opened != Ok(()) {
+            return Err(self.differs("first open", 0));
+        }
+        if let Some(turn) = self.script.first_other() {
+            return Err(self.differs("answer", turn));
+        }
+        if self.outcome.reopened != self.script.open {
+            return Err(self.differs("second open", 0));
+        }
+        if self.outcome.audit != self.model.audit() {
+            return Err(self.differs("audit", 0));
+        }
+        if !self.area.has_marks(&self.model) {
+            return Err(self.differs("marks", 0));
+        }
+        Ok(())
+    }
+
+    // The block that a pair must hold: between standing stations what the last writes ask for.
+    fn wanted_block(&self, a: u8, b: u8, codeword: &[Block]) -> Option<Block> {
+        if self.model.is_out(a) || self.model.is_out(b) {
+            return self.area.lost_block();
+        }
+        if self.model.is_absent(a) || self.model.is_absent(b) {
+            return None;
+        }
+        codeword.get(place_of(a, b)).copied()
+    }
+
+    // What the store holds. Answers how many blocks were compared.
+    fn compare_stored(&self, heap: Global, codeword: &[Block]) -> Result<usize, Stop> {
+        let pairs = (0..self.model.n()).flat_map(|a| (0..=a).map(move |b| (a, b)));
+        let wanted: Vec<(usize, Block)> = pairs
+            .filter_map(|(a, b)| {
+                let block = self.wanted_block(a, b, codeword)?;
+                Some((place_of(a, b), block))
+            })
+            .collect(heap)?;
+        match wanted.iter().find(|(p, block)| !self.area.holds(*p, block)) {
+            Some((p, _)) => Err(self.differs("stored block", *p)),
+            None => Ok(wanted.len()),
         }
     }
-    Ok(stored)
 }
 
 // Makes a list of calls on the model and on a book over a new store, and compares them.
@@ -74,18 +94,11 @@ pub fn compare_list<A: Area + Drop>(
     counts: &mut Counts,
 ) -> Result<(), Stop> {
     let heap = bench.heap;
-    let list = counts.lists;
-    let mut model = Model::new(heap, n)?;
-    let mut script = bench.write_script(&mut model)?;
-    let mut area = A::new(heap, n)?;
-    let outcome = area.serve(n, &mut script, rack)?;
-    compare_answers(list, &model, &script, &outcome)?;
-    if !area.has_marks(&model) {
-        return Err(differs("marks", n, list, 0));
-    }
-    let wanted = Solution::of(heap, n)?.encode(heap, model.written())?;
-    let stored = compare_stored(list, &model, &area, wanted.as_slice())?;
-    counts.count_list(stored, script.answers.as_slice());
-    counts.count_outcome(&outcome.reopened, &outcome.audit);
+    let made = Made::<A>::make(bench, n, counts.lists, rack)?;
+    made.compare_answers()?;
+    let codeword = Solution::of(heap, n)?.encode(heap, made.model.written())?;
+    let stored = made.compare_stored(heap, codeword.as_slice())?;
+    counts.count_list(stored, made.script.wanted.as_slice());
+    counts.count_outcome(&made.outcome.reopened, &made.outcome.audit);
     Ok(())
 }

@@ -2,7 +2,7 @@
 use audit::Verdict;
 use faults::Fault;
 use kinds::Block;
-use serve::Answer;
+use serve::{Answer, Turn};
 
 #[derive(Default, Drop)]
 pub struct Counts {
@@ -14,7 +14,7 @@ pub struct Counts {
     pub accepted: usize,
     pub untouched: usize,
     pub not_made: usize,
-    // by the fault's number
+    // by the fault's number, as they are printed
     pub refused: [usize; 20],
 }
 
@@ -39,12 +39,12 @@ impl Counts {
         }
     }
 
-    pub fn count_list(&mut self, stored: usize, answers: &[Answer<Block>]) {
+    pub fn count_list(&mut self, stored: usize, turns: &[Turn<Block>]) {
         count_up(&mut self.lists);
         self.stored = self.stored.saturating_add(stored);
-        self.calls = self.calls.saturating_add(answers.len());
-        for answer in answers {
-            self.count_answer(answer);
+        self.calls = self.calls.saturating_add(turns.len());
+        for turn in turns {
+            self.count_answer(&turn.answer);
         }
     }
 

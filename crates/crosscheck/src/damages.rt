@@ -162,14 +162,11 @@ pub fn compare_sessions(heap: Global, sizes: &[u8]) -> Result<Compared, Stop> {
 // Random inputs of each size. Answers how many.
 fn compare_random(heap: Global, sizes: &[u8]) -> Result<usize, Stop> {
     let mut random = Random::new(4);
-    // Counted by hand: the count tells the inputs apart.
-    let mut inputs: usize = 0;
-    for _ in 0..20 {
-        for n in sizes {
-            let input = random_input(heap, *n, &mut random)?;
-            compare_input(heap, input.as_slice(), "random session", inputs)?;
-            inputs = inputs.saturating_add(1);
-        }
-    }
-    Ok(inputs)
+    let mut rounds = (0..20).flat_map(|_| sizes.iter());
+    // The count so far tells an input apart.
+    rounds.try_fold(0, |inputs: usize, n| {
+        let input = random_input(heap, *n, &mut random)?;
+        compare_input(heap, input.as_slice(), "random session", inputs)?;
+        Ok(inputs.saturating_add(1))
+    })
 }

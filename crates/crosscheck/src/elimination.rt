@@ -1,5 +1,4 @@
 // The sum rules of a size, solved for the check pairs by plain elimination over bits.
-use crate::blocks::add_bytes;
 use kinds::Block;
 use std::alloc::{AllocError, Global};
 use std::ops::Range;
@@ -142,7 +141,9 @@ fn sum_blocks(sum: &Sum, blocks: &[Block]) -> Block {
     let mut bytes = [0; 64];
     for (p, block) in blocks.iter().enumerate() {
         if sum.has(p) {
-            add_bytes(&mut bytes, block.as_bytes());
+            for (sum, byte) in bytes.iter_mut().zip(block.as_bytes()) {
+                *sum ^= *byte;
+            }
         }
     }
     Block::from(bytes)

@@ -1,9 +1,7 @@
 // Compares a plain model of the pair book with the library, and prints how much was compared.
 #![tactic(auto)]
 
-mod answers;
 mod areas;
-mod blocks;
 mod calls;
 mod choices;
 mod counts;

@@ -17,6 +17,7 @@ pub enum Standing {
 
 #[derive(Drop)]
 pub struct Model {
+    // the length of `stations`, as a station number
     n: u8,
     stations: Vec<Standing>,
     written: Vec<Block>,
@@ -70,9 +71,7 @@ impl Model {
     }
 
     pub fn count_absent(&self) -> u8 {
-        (0..self.n)
-            .filter(|s| self.is_absent(*s))
-            .fold(0, |count: u8, _| count.saturating_add(1))
+        (0..self.n).filter(|s| self.is_absent(*s)).count() as u8
     }
 
     // The station that is being filled.
@@ -80,10 +79,15 @@ impl Model {
         (0..self.n).find(|s| matches!(self.standing(*s), Standing::Filled { .. }))
     }
 
+    // How a station stands that has no partner left.
+    fn full(&self) -> Standing {
+        Standing::Filled { next: self.n }
+    }
+
     // Whether a station is being filled and has no partner left.
     pub fn is_full(&self) -> bool {
-        let full = Standing::Filled { next: self.n };
-        self.filled().is_some_and(|s| self.standing(s) == full)
+        self.filled()
+            .is_some_and(|s| self.standing(s) == self.full())
     }
 
     // A station that is out, the next from s on.
@@ -199,8 +203,7 @@ impl Model {
     }
 
     pub fn finish(&mut self, s: u8) -> Result<(), Fault> {
-        let full = Standing::Filled { next: self.n };
-        if self.standing(s) != full {
+        if self.standing(s) != self.full() {
             return Err(Fault::TicketRefused(s));
         }
         self.set(s, Standing::Stands);

@@ -1,5 +1,4 @@
 // Lost blocks and patterns of a size: what the library recovers, against the solved sum rules.
-use crate::blocks::holds;
 use crate::elimination::{Solution, count_pairs, place_of};
 use crate::random::Random;
 use crate::stops::{Stop, differs};
@@ -22,10 +21,8 @@ impl Codeword {
     // Random blocks at the data pairs.
     fn random(heap: Global, solution: &Solution, random: &mut Random) -> Result<Self, AllocError> {
         let n = solution.n();
-        let mut blocks = Vec::new(heap);
-        for _ in 0..solution.data_pairs() {
-            blocks.push(random.block())?;
-        }
+        let data = 0..solution.data_pairs();
+        let blocks: Vec<Block> = data.map(|_| random.block()).collect(heap)?;
         Ok(Codeword {
             heap,
             n,
@@ -51,22 +48,20 @@ impl Codeword {
     fn recovers<S: ReadStore<Block = Block>>(&mut self, store: &S, a: u8, b: u8) -> bool {
         let mut block = Block::from([0x5A; 64]);
         let answer = recover(store, a, b, self.work.as_mut_slice(), &mut block);
-        answer.is_ok() && holds(self.row.as_slice(), place_of(a, b), &block)
+        answer.is_ok() && self.row.get(place_of(a, b)) == Some(&block)
     }
 
     // The first partner of s at which the recovered block is not the one of the row.
     fn first_wrong<S: ReadStore<Block = Block>>(&mut self, store: &S, s: u8) -> Option<u8> {
-        for k in 0..self.n {
-            let (a, b) = if k % 2 == 0 { (s, k) } else { (k, s) };
-            if !self.recovers(store, a, b) {
-                return Some(k);
-            }
-        }
-        None
+        (0..self.n).find(|k| {
+            let (a, b) = if *k % 2 == 0 { (s, *k) } else { (*k, s) };
+            !self.recovers(store, a, b)
+        })
     }
 
-    // Recovers every pair of two stations, which may be one, from a table with both out.
-    fn compare_lost(&mut self, lost: [u8; 2], random: &mut Random) -> Result<(), Stop> {
+    // Recovers every pair of two stations, which may be one, from a table with both out. Answers how many recoveries there
+    // were.
+    fn compare_lost(&mut self, lost: [u8; 2], random: &mut Random) -> Result<usize, Stop> {
         let [i, j] = lost;
         let mut held = self.spoilt(lost, random)?;
         let row = held.as_mut_slice();
@@ -81,7 +76,7 @@ impl Codeword {
                 return Err(differs("recovered block", n, place_of(i, j), at));
             }
         }
-        Ok(())
+        Ok(2 * usize::from(n))
     }
 }
 
@@ -93,14 +88,11 @@ pub fn compare_recoveries(
 ) -> Result<usize, Stop> {
     let n = solution.n();
     let mut codeword = Codeword::random(heap, solution, random)?;
-    let mut recovered: usize = 0;
-    for i in 0..n {
-        for j in 0..=i {
-            codeword.compare_lost([i, j], random)?;
-            recovered = recovered.saturating_add(2 * usize::from(n));
-        }
-    }
-    Ok(recovered)
+    let mut losses = (0..n).flat_map(|i| (0..=i).map(move |j| [i, j]));
+    losses.try_fold(0, |recovered: usize, lost| {
+        let more = codeword.compare_lost(lost, random)?;
+        Ok(recovered.saturating_add(more))
+    })
 }
 
 // Whether bits are the pattern of the data pair at a place, and true past the pairs.

@@ -11,14 +11,13 @@ use serve::{Answer, Call, Rack, Turn, carry_on, serve};
 use std::alloc::{AllocError, Global};
 use store::WriteStore;
 
-// A list of calls, the model's answers, and a work area.
+// A list of calls, the same with the model's answers, what the model answers to an open after them, and a work area.
 #[derive(Drop)]
 pub struct Script {
-    pub turns: Vec<Turn<Block>>,
-    pub answers: Vec<Answer<Block>>,
+    turns: Vec<Turn<Block>>,
+    pub wanted: Vec<Turn<Block>>,
+    pub open: Result<(), Fault>,
     work: Vec<Block>,
-    // whether the book is opened again after the calls
-    reopen: bool,
 }
 
 // What a book answered to its opens, before the calls and after them, and to an audit.
@@ -30,7 +29,8 @@ pub struct Outcome {
 }
 
 impl Script {
-    // Makes the calls on a book over a store, in two parts, and opens it again if asked.
+    // Makes the calls on a book over a store, in two parts. Opens it again only where that is refused, so that the store
+    // stays as it is.
     pub fn serve<S: WriteStore<Block = Block> + Drop>(
         &mut self,
         store: S,
@@ -42,12 +42,22 @@ impl Script {
         let (first, rest) = self.turns.as_mut_slice().split_at_mut(half);
         let opened = serve(&mut book, first, work, rack);
         carry_on(&mut book, rest, work, rack);
-        let reopened = if self.reopen { book.open() } else { Ok(()) };
+        let reopened = if self.open.is_err() {
+            book.open()
+        } else {
+            Ok(())
+        };
         Outcome {
             opened,
             reopened,
             audit: book.audit(),
         }
+    }
+
+    // The first turn that is not as the model wants it.
+    pub fn first_other(&self) -> Option<usize> {
+        let mut turns = self.turns.iter().zip(self.wanted.iter());
+        turns.position(|(turn, wanted)| *turn != *wanted)
     }
 }
 
@@ -95,20 +105,19 @@ impl Bench {
         let length = 300 + 20 * usize::from(model.n());
         let steady = self.random.once_in(2);
         let mut turns = Vec::new(self.heap);
-        let mut answers = Vec::new(self.heap);
+        let mut wanted = Vec::new(self.heap);
         for k in 0..length {
             let call = self.choose(model, steady && k > length / 2);
-            answers.push(model.answer(call, work.len(), &mut self.tickets))?;
+            let answer = model.answer(call, work.len(), &mut self.tickets);
+            wanted.push(Turn { call, answer })?;
             let answer = Answer::NotMade;
             turns.push(Turn { call, answer })?;
         }
-        // Only where that is refused, so that the store stays as it is.
-        let reopen = model.open().is_err();
         Ok(Script {
             turns,
-            answers,
+            wanted,
+            open: model.open(),
             work,
-            reopen,
         })
     }
 }

@@ -16,6 +16,7 @@ enum Answer {
     Sound,
 }
 
+// The texts of answers and of faults are written out here: the library's own are compared with them.
 impl fmt::Display for Answer {
     fn fmt<W: fmt::Write>(&self, f: &mut fmt::Formatter<W>) -> fmt::Result {
         match self {

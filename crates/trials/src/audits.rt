@@ -1,9 +1,8 @@
 // Audits: lawful images, a flipped bit in each pair, and stations that are out.
-use crate::samples::{PAIRS, five, flip, three};
+use crate::samples::{PAIRS, five, flip, read_image, three};
 use audit::{Verdict, audit, audit_beside, first_absent};
 use code::Marks;
 use faults::Fault;
-use image::{ReadImage, check_image};
 use std::process::Abort;
 use std::test::Fail;
 use store::{Beside, ReadStore};
@@ -15,8 +14,7 @@ fn audits(
     answer: Result<Verdict, Fault>,
     case: usize,
 ) -> Result<(), Fail> {
-    check_image(bytes)?;
-    assert_eq!(rt; audit(&ReadImage::make(bytes)), answer, "{}", case);
+    assert_eq!(rt; audit(&read_image(bytes)?), answer, "{}", case);
     Ok(())
 }
 
@@ -63,10 +61,8 @@ fn stations_out(rt: HostRuntime) -> Result<(), Fail> {
 // Stations that count as absent beside those that are out: here station 3 is out.
 #[test]
 fn stations_beside(rt: HostRuntime) -> Result<(), Fail> {
-    let image = five(rt.alloc(), 0b01000)?;
-    let bytes = image.as_slice();
-    check_image(bytes)?;
-    let store = ReadImage::make(bytes);
+    let bytes = five(rt.alloc(), 0b01000)?;
+    let store = read_image(bytes.as_slice())?;
     for also in 0..64 {
         let beside = Beside {
             store: &store,
@@ -88,10 +84,8 @@ fn stations_beside(rt: HostRuntime) -> Result<(), Fail> {
 // A station from n on is none, so that it keeps no audit from its answer.
 #[test]
 fn stations_past_the_last(rt: HostRuntime) -> Result<(), Fail> {
-    let image = five(rt.alloc(), 0)?;
-    let bytes = image.as_slice();
-    check_image(bytes)?;
-    let store = ReadImage::make(bytes);
+    let bytes = five(rt.alloc(), 0)?;
+    let store = read_image(bytes.as_slice())?;
     let beside = Beside {
         store: &store,
         also: Marks::from(0b100000),

@@ -1,60 +1,47 @@
 // Images: what is refused, in which order, and what a sound one answers.
-use crate::samples::{FIVE, PAIRS, SIZES, five, set, summed, zeros};
+use crate::samples::{FIVE, PAIRS, SIZES, five, read_image, set, summed, zeros};
 use faults::Fault;
 use image::{ReadImage, check_image};
 use kinds::Block;
-use std::alloc::{AllocError, Global};
+use std::alloc::Global;
 use std::process::Abort;
 use std::test::Fail;
 use store::ReadStore;
 
-// What `check_image` answers, as text.
-fn answer(heap: Global, bytes: &[u8]) -> Result<String, AllocError> {
-    match check_image(bytes) {
-        Ok(()) => String::from_str(heap, "ok"),
-        Err(fault) => format!(in heap; "{fault}"),
-    }
-}
-
-// The answer on the image of five stations after some of its bytes are set.
-fn answer_after(heap: Global, changes: &[(usize, u8)]) -> Result<String, Fail> {
+// What `check_image` answers on the image of five stations after some of its bytes are set.
+fn answer_after(heap: Global, changes: &[(usize, u8)]) -> Result<Result<(), Fault>, Fail> {
     let mut bytes = five(heap, 0)?;
     for (at, value) in changes {
         set(bytes.as_mut_slice(), *at, *value)?;
     }
-    Ok(answer(heap, bytes.as_slice())?)
+    Ok(check_image(bytes.as_slice()))
 }
 
 #[test]
 fn one_byte_changed(rt: HostRuntime) -> Result<(), Fail> {
     let cases = [
-        (0, 1, "ok"),
-        (0, 0, "14 r 0"),
-        (0, 2, "14 r 0"),
-        (1, 1, "13 r 970"),
-        (2, 1, "13 r 970"),
-        (3, 2, "13 r 970"),
-        (4, 0xc4, "13 r 970"),
-        (4, 0xc6, "13 r 970"),
-        (5, 4, "1 b 4"),
-        (5, 2, "1 b 2"),
-        (5, 3, "13 r 970"),
-        (5, 7, "13 r 970"),
-        (6, 0x80, "15 r 6"),
-        (7, 0x01, "15 r 6"),
-        (8, 0x01, "15 r 6"),
-        (9, 0x20, "15 r 6"),
-        (9, 0x10, "ok"),
-        (9, 0x1f, "ok"),
-        (10, 0, "ok"),
+        (0, 1, Ok(())),
+        (0, 0, Err(Fault::WrongVersion(0))),
+        (0, 2, Err(Fault::WrongVersion(0))),
+        (1, 1, Err(Fault::WrongLength(970))),
+        (2, 1, Err(Fault::WrongLength(970))),
+        (3, 2, Err(Fault::WrongLength(970))),
+        (4, 0xc4, Err(Fault::WrongLength(970))),
+        (4, 0xc6, Err(Fault::WrongLength(970))),
+        (5, 4, Err(Fault::NotASize(4))),
+        (5, 2, Err(Fault::NotASize(2))),
+        (5, 3, Err(Fault::WrongLength(970))),
+        (5, 7, Err(Fault::WrongLength(970))),
+        (6, 0x80, Err(Fault::StrayMarks)),
+        (7, 0x01, Err(Fault::StrayMarks)),
+        (8, 0x01, Err(Fault::StrayMarks)),
+        (9, 0x20, Err(Fault::StrayMarks)),
+        (9, 0x10, Ok(())),
+        (9, 0x1f, Ok(())),
+        (10, 0, Ok(())),
     ];
-    for (at, value, text) in cases {
-        assert_eq!(rt;
-            answer_after(rt.alloc(), &[(at, value)])?.as_str(),
-            text,
-            "{}",
-            at
-        );
+    for (at, value, answer) in cases {
+        assert_eq!(rt; answer_after(rt.alloc(), &[(at, value)])?, answer, "{}", at);
     }
     Ok(())
 }
@@ -63,15 +50,15 @@ fn one_byte_changed(rt: HostRuntime) -> Result<(), Fail> {
 #[test]
 fn checks_in_order(rt: HostRuntime) -> Result<(), Fail> {
     let cases = [
-        ((0, 0), (5, 4), "14 r 0"),
-        ((0, 0), (4, 0), "14 r 0"),
-        ((0, 0), (9, 0x20), "14 r 0"),
-        ((5, 4), (4, 0), "1 b 4"),
-        ((5, 4), (9, 0x20), "1 b 4"),
-        ((4, 0), (9, 0x20), "13 r 970"),
+        ((0, 0), (5, 4), Err(Fault::WrongVersion(0))),
+        ((0, 0), (4, 0), Err(Fault::WrongVersion(0))),
+        ((0, 0), (9, 0x20), Err(Fault::WrongVersion(0))),
+        ((5, 4), (4, 0), Err(Fault::NotASize(4))),
+        ((5, 4), (9, 0x20), Err(Fault::NotASize(4))),
+        ((4, 0), (9, 0x20), Err(Fault::WrongLength(970))),
     ];
-    for (one, other, text) in cases {
-        assert_eq!(rt; answer_after(rt.alloc(), &[one, other])?.as_str(), text);
+    for (one, other, answer) in cases {
+        assert_eq!(rt; answer_after(rt.alloc(), &[one, other])?, answer);
     }
     Ok(())
 }
@@ -156,8 +143,7 @@ fn gets(rt: &impl Abort, image: &ReadImage<'_>, a: u8, b: u8, answer: Result<(),
 #[test]
 fn get_with_all_in(rt: HostRuntime) -> Result<(), Fail> {
     let bytes = five(rt.alloc(), 0)?;
-    check_image(bytes.as_slice())?;
-    let image = ReadImage::make(bytes.as_slice());
+    let image = read_image(bytes.as_slice())?;
     for a in 0..5 {
         for b in 0..5 {
             gets(&rt, &image, a, b, Ok(()));
@@ -169,8 +155,7 @@ fn get_with_all_in(rt: HostRuntime) -> Result<(), Fail> {
 #[test]
 fn get_with_two_out(rt: HostRuntime) -> Result<(), Fail> {
     let bytes = five(rt.alloc(), 0b01010)?;
-    check_image(bytes.as_slice())?;
-    let image = ReadImage::make(bytes.as_slice());
+    let image = read_image(bytes.as_slice())?;
     for a in NUMBERS {
         for b in NUMBERS {
             gets(&rt, &image, a, b, with_two_out(a, b));
@@ -182,8 +167,7 @@ fn get_with_two_out(rt: HostRuntime) -> Result<(), Fail> {
 #[test]
 fn size_and_is_in(rt: HostRuntime) -> Result<(), Fail> {
     let bytes = five(rt.alloc(), 0b01010)?;
-    check_image(bytes.as_slice())?;
-    let image = ReadImage::make(bytes.as_slice());
+    let image = read_image(bytes.as_slice())?;
     assert_eq!(rt; image.size().number(), 5);
     for s in 0..5 {
         assert_eq!(rt; image.is_in(s), Ok(s != 1 && s != 3));

@@ -1,31 +1,20 @@
 // The text of a report.
 use crate::samples::{five, flip, set, three};
 use report::inspect;
-use std::alloc::Global;
 use std::process::Abort;
 use std::test::Fail;
 
 // A refused image has no other line; else the lines of the pairs follow.
-fn inspects(rt: &impl Abort, heap: Global, bytes: &[u8], text: &str) -> Result<(), Fail> {
-    assert!(rt; inspect(heap, bytes)?.as_str().starts_with(text));
+fn inspects(rt: &(impl Abort + AllocGlobal), bytes: &[u8], text: &str) -> Result<(), Fail> {
+    assert!(rt; inspect(rt.alloc(), bytes)?.as_str().starts_with(text));
     Ok(())
 }
 
 #[test]
 fn sound(rt: HostRuntime) -> Result<(), Fail> {
     let heap = rt.alloc();
-    inspects(
-        &rt,
-        heap,
-        three(heap, 0)?.as_slice(),
-        "size 3\nout none\nsound\n",
-    )?;
-    inspects(
-        &rt,
-        heap,
-        five(heap, 0)?.as_slice(),
-        "size 5\nout none\nsound\n",
-    )
+    inspects(&rt, three(heap, 0)?.as_slice(), "size 3\nout none\nsound\n")?;
+    inspects(&rt, five(heap, 0)?.as_slice(), "size 5\nout none\nsound\n")
 }
 
 // A bit is flipped in the pair of 1 and 2, and in that of 3 with itself.
@@ -38,7 +27,7 @@ fn broken(rt: HostRuntime) -> Result<(), Fail> {
     ] {
         let mut bytes = five(heap, 0)?;
         flip(bytes.as_mut_slice(), place)?;
-        inspects(&rt, heap, bytes.as_slice(), text)?;
+        inspects(&rt, bytes.as_slice(), text)?;
     }
     Ok(())
 }
@@ -52,7 +41,7 @@ fn out(rt: HostRuntime) -> Result<(), Fail> {
         (0b11111, "size 5\nout 0 1 2 3 4\nno 12 b 0\n"),
     ];
     for (marks, text) in cases {
-        inspects(&rt, heap, five(heap, marks)?.as_slice(), text)?;
+        inspects(&rt, five(heap, marks)?.as_slice(), text)?;
     }
     Ok(())
 }
@@ -60,7 +49,7 @@ fn out(rt: HostRuntime) -> Result<(), Fail> {
 #[test]
 fn refused(rt: HostRuntime) -> Result<(), Fail> {
     let heap = rt.alloc();
-    inspects(&rt, heap, &[], "no 13 r 0\n")?;
+    inspects(&rt, &[], "no 13 r 0\n")?;
     for (at, value, text) in [
         (0, 2, "no 14 r 0\n"),
         (5, 4, "no 1 b 4\n"),
@@ -69,7 +58,7 @@ fn refused(rt: HostRuntime) -> Result<(), Fail> {
     ] {
         let mut bytes = five(heap, 0)?;
         set(bytes.as_mut_slice(), at, value)?;
-        inspects(&rt, heap, bytes.as_slice(), text)?;
+        inspects(&rt, bytes.as_slice(), text)?;
     }
     Ok(())
 }

@@ -1,5 +1,7 @@
 // Images made by hand, with the check pairs of three and of five stations written out as tables.
 // The trials of the stores list the pairs of five stations too: each crate of trials stands by itself.
+use faults::Fault;
+use image::{ReadImage, check_image};
 use std::alloc::{AllocError, Global};
 use std::array;
 use std::test::Fail;
@@ -93,6 +95,12 @@ pub fn three(heap: Global, marks: u32) -> Result<Vec<u8>, AllocError> {
 // An image whose blocks are all zero.
 pub fn zeros(heap: Global, n: u8, pairs: usize, marks: u32) -> Result<Vec<u8>, AllocError> {
     image(heap, n, marks, vec![in heap; 0; pairs]?.as_slice())
+}
+
+// The image that bytes are.
+pub fn read_image(bytes: &[u8]) -> Result<ReadImage<'_>, Fault> {
+    check_image(bytes)?;
+    Ok(ReadImage::make(bytes))
 }
 
 pub fn set(bytes: &mut [u8], at: usize, value: u8) -> Result<(), Fail> {

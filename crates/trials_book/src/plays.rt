@@ -7,48 +7,40 @@ use std::alloc::Global;
 use std::test::Fail;
 use store::{ReadStore, Table, WriteStore, check_table};
 
-// A call: stations, and the length of the work area.
-#[derive(Clone, Copy, Debug)]
-pub enum Move {
-    Write(u8, u8, usize),
-    Read(u8, u8, usize),
-    Lose(u8),
-    Fit(u8),
-    Fill(u8, usize),
-    Finish(u8),
-    AbandonOpen(u8),
-    AbandonFull(u8),
+// Calls by their stations, and by the length of the work area. What is written is a one.
+pub fn write(a: u8, b: u8, area: usize) -> Call<bool> {
+    let block = true;
+    Call::Write { a, b, block, area }
 }
 
-// The call as a value; what is written is a one.
-impl From<Move> for Call<bool> {
-    fn from(made: Move) -> Call<bool> {
-        let block = true;
-        match made {
-            Move::Write(a, b, area) => Call::Write { a, b, block, area },
-            Move::Read(a, b, area) => Call::Read { a, b, area },
-            Move::Lose(station) => Call::Lose { station },
-            Move::Fit(station) => Call::Fit { station },
-            Move::Fill(station, area) => Call::Fill { station, area },
-            Move::Finish(station) => Call::Finish { station },
-            Move::AbandonOpen(station) => Call::Abandon {
-                station,
-                sort: Sort::Open,
-            },
-            Move::AbandonFull(station) => Call::Abandon {
-                station,
-                sort: Sort::Full,
-            },
-        }
-    }
+pub fn read(a: u8, b: u8, area: usize) -> Call<bool> {
+    Call::Read { a, b, area }
+}
+
+pub fn lose(station: u8) -> Call<bool> {
+    Call::Lose { station }
+}
+
+pub fn fit(station: u8) -> Call<bool> {
+    Call::Fit { station }
+}
+
+pub fn fill(station: u8, area: usize) -> Call<bool> {
+    Call::Fill { station, area }
+}
+
+pub fn finish(station: u8) -> Call<bool> {
+    Call::Finish { station }
+}
+
+pub fn abandon(station: u8, sort: Sort) -> Call<bool> {
+    Call::Abandon { station, sort }
 }
 
 // The call, with no answer yet.
-fn turn(made: Move) -> Turn<bool> {
-    Turn {
-        call: Call::from(made),
-        answer: Answer::NotMade,
-    }
+pub fn turn<B>(call: Call<B>) -> Turn<B> {
+    let answer = Answer::NotMade;
+    Turn { call, answer }
 }
 
 // Each list is served on the same book, opened anew, with the tickets that the lists before it left. As an array the three do
@@ -80,36 +72,28 @@ pub struct Left {
 
 // Station 1 is lost and filled up, and its full ticket is left.
 fn leave_full() -> [Turn<bool>; 7] {
-    let step = turn(Move::Fill(1, 40));
-    [
-        turn(Move::Lose(1)),
-        turn(Move::Fit(1)),
-        step,
-        step,
-        step,
-        step,
-        step,
-    ]
+    let step = turn(fill(1, 40));
+    [turn(lose(1)), turn(fit(1)), step, step, step, step, step]
 }
 
 // Station 3 is lost and fitted, and its open ticket is left.
 fn leave_open() -> [Turn<bool>; 2] {
-    [turn(Move::Lose(3)), turn(Move::Fit(3))]
+    [turn(lose(3)), turn(fit(3))]
 }
 
 // Makes the calls of some lists, one after the other, on a book that was opened, with a full ticket of station 1 and an
 // open one of station 3 that are stale.
-pub fn play(heap: Global, lists: &[&[Move]]) -> Result<Left, Fail> {
+pub fn play(heap: Global, lists: &[&[Call<bool>]]) -> Result<Left, Fail> {
     let mut turns = Vec::new(heap);
-    for moves in lists {
-        for made in *moves {
-            turns.push(turn(*made))?;
-        }
+    for calls in lists {
+        turns.extend(calls.iter().copied().map(turn))?;
     }
     let mut full = leave_full();
     let mut open = leave_open();
     let mut row = [true; 15];
     let mut work = [true; 40];
+    // Here as in each trial a row is checked and made a table: the check does not follow a `Result` of a table, which a
+    // function for both would answer.
     check_table(5, &row)?;
     let table = Table::make(5, &mut row);
     let list = turns.as_mut_slice();

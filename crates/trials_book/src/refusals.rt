@@ -1,7 +1,7 @@
 // What the calls of a book of five stations refuse, at the edge of each check, and that a refused call changes nothing.
-use crate::plays::{Left, Move, play};
+use crate::plays::{Left, abandon, fill, finish, fit, lose, play, read, write};
 use faults::Fault;
-use serve::Answer;
+use serve::{Answer, Call, Sort};
 use std::alloc::Global;
 use std::process::Abort;
 use std::test::Fail;
@@ -14,9 +14,14 @@ struct Compared {
 }
 
 impl Compared {
-    fn play(heap: Global, before: &[Move], made: Move, after: &[Move]) -> Result<Self, Fail> {
+    fn play(
+        heap: Global,
+        before: &[Call<bool>],
+        call: Call<bool>,
+        after: &[Call<bool>],
+    ) -> Result<Self, Fail> {
         Ok(Compared {
-            with: play(heap, &[before, &[made], after])?,
+            with: play(heap, &[before, &[call], after])?,
             without: play(heap, &[before, after])?,
         })
     }
@@ -32,155 +37,169 @@ impl Compared {
     // So many calls that come after it are answered alike, and leave the same row.
     fn ends_alike(&self, count: usize) -> bool {
         let with = self.with.turns.iter().rev().take(count);
-        let without = self.without.turns.iter().rev();
-        with.zip(without)
-            .all(|(turn, other)| turn.answer == other.answer)
-            && self.with.row == self.without.row
+        let without = self.without.turns.iter().rev().take(count);
+        with.eq(without) && self.with.row == self.without.row
     }
 }
 
 // What shows the blocks, the record of the filling and the tickets.
-const ENDING: [Move; 12] = [
-    Move::Read(0, 0, 40),
-    Move::Read(1, 0, 40),
-    Move::Read(1, 1, 40),
-    Move::Read(2, 0, 40),
-    Move::Read(2, 1, 40),
-    Move::Read(2, 2, 40),
-    Move::Fill(1, 40),
-    Move::Finish(1),
-    Move::Fill(3, 40),
-    Move::Finish(1),
-    Move::Write(2, 0, 40),
-    Move::Read(2, 0, 40),
-];
+fn ending() -> [Call<bool>; 12] {
+    [
+        read(0, 0, 40),
+        read(1, 0, 40),
+        read(1, 1, 40),
+        read(2, 0, 40),
+        read(2, 1, 40),
+        read(2, 2, 40),
+        fill(1, 40),
+        finish(1),
+        fill(3, 40),
+        finish(1),
+        write(2, 0, 40),
+        read(2, 0, 40),
+    ]
+}
 
 // Each call is refused so after these calls and changes nothing, and what comes after is the same as without it.
 fn each_refuses(
-    rt: &impl Abort,
-    heap: Global,
-    before: &[Move],
-    cases: &[(Move, Fault)],
+    rt: &(impl Abort + AllocGlobal),
+    before: &[Call<bool>],
+    cases: &[(Call<bool>, Fault)],
 ) -> Result<(), Fail> {
-    for (made, fault) in cases {
-        let last = Compared::play(heap, before, *made, &[])?;
+    let ending = ending();
+    for (call, fault) in cases {
+        let last = Compared::play(rt.alloc(), before, *call, &[])?;
         assert!(rt;
             last.changes_nothing(Answer::Refused(*fault)),
             "{:?}",
-            *made
+            *call
         );
-        let between = Compared::play(heap, before, *made, &ENDING)?;
-        assert!(rt; between.ends_alike(12), "{:?}", *made);
+        let between = Compared::play(rt.alloc(), before, *call, &ending)?;
+        assert!(rt; between.ends_alike(ending.len()), "{:?}", *call);
     }
     Ok(())
 }
 
-const ALL_STAND: [(Move, Fault); 19] = [
-    (Move::Write(9, 9, 39), Fault::AreaTooShort(39)),
-    (Move::Read(0, 0, 39), Fault::AreaTooShort(39)),
-    (Move::Read(9, 9, 0), Fault::AreaTooShort(0)),
-    (Move::Write(5, 6, 40), Fault::NoSuchStation(5)),
-    (Move::Write(6, 5, 40), Fault::NoSuchStation(6)),
-    (Move::Read(3, 5, 40), Fault::NoSuchStation(5)),
-    (Move::Read(255, 0, 40), Fault::NoSuchStation(255)),
-    (Move::Write(2, 3, 40), Fault::CheckPair(3)),
-    (Move::Write(4, 4, 40), Fault::CheckPair(4)),
-    (Move::Read(3, 0, 40), Fault::CheckPair(3)),
-    (Move::Read(3, 4, 40), Fault::CheckPair(4)),
-    (Move::Lose(5), Fault::NoSuchStation(5)),
-    (Move::Lose(255), Fault::NoSuchStation(255)),
-    (Move::Fit(5), Fault::NoSuchStation(5)),
-    (Move::Fit(0), Fault::NotOut(0)),
-    (Move::Fit(4), Fault::NotOut(4)),
-    (Move::Fill(3, 39), Fault::AreaTooShort(39)),
-    (Move::Fill(3, 40), Fault::TicketRefused(3)),
-    (Move::Finish(1), Fault::TicketRefused(1)),
-];
+// What is refused while all stations stand, while some are out, and while station 1 is being filled.
+fn all_stand() -> [(Call<bool>, Fault); 19] {
+    [
+        (write(9, 9, 39), Fault::AreaTooShort(39)),
+        (read(0, 0, 39), Fault::AreaTooShort(39)),
+        (read(9, 9, 0), Fault::AreaTooShort(0)),
+        (write(5, 6, 40), Fault::NoSuchStation(5)),
+        (write(6, 5, 40), Fault::NoSuchStation(6)),
+        (read(3, 5, 40), Fault::NoSuchStation(5)),
+        (read(255, 0, 40), Fault::NoSuchStation(255)),
+        (write(2, 3, 40), Fault::CheckPair(3)),
+        (write(4, 4, 40), Fault::CheckPair(4)),
+        (read(3, 0, 40), Fault::CheckPair(3)),
+        (read(3, 4, 40), Fault::CheckPair(4)),
+        (lose(5), Fault::NoSuchStation(5)),
+        (lose(255), Fault::NoSuchStation(255)),
+        (fit(5), Fault::NoSuchStation(5)),
+        (fit(0), Fault::NotOut(0)),
+        (fit(4), Fault::NotOut(4)),
+        (fill(3, 39), Fault::AreaTooShort(39)),
+        (fill(3, 40), Fault::TicketRefused(3)),
+        (finish(1), Fault::TicketRefused(1)),
+    ]
+}
 
-const TWO_OUT: [(Move, Fault); 5] = [
-    (Move::Lose(0), Fault::AlreadyAbsent(0)),
-    (Move::Lose(4), Fault::AlreadyAbsent(4)),
-    (Move::Fit(5), Fault::NoSuchStation(5)),
-    (Move::Fit(1), Fault::NotOut(1)),
-    (Move::Fill(3, 40), Fault::TicketRefused(3)),
-];
+fn two_out() -> [(Call<bool>, Fault); 5] {
+    [
+        (lose(0), Fault::AlreadyAbsent(0)),
+        (lose(4), Fault::AlreadyAbsent(4)),
+        (fit(5), Fault::NoSuchStation(5)),
+        (fit(1), Fault::NotOut(1)),
+        (fill(3, 40), Fault::TicketRefused(3)),
+    ]
+}
 
-const THREE_OUT: [(Move, Fault); 11] = [
-    (Move::Write(1, 1, 39), Fault::AreaTooShort(39)),
-    (Move::Write(5, 0, 40), Fault::NoSuchStation(5)),
-    (Move::Write(3, 1, 40), Fault::CheckPair(3)),
-    (Move::Write(1, 1, 40), Fault::TooManyAbsent(3)),
-    (Move::Read(3, 3, 40), Fault::CheckPair(3)),
-    (Move::Read(1, 0, 40), Fault::TooManyAbsent(3)),
-    (Move::Read(2, 1, 40), Fault::TooManyAbsent(3)),
-    (Move::Lose(4), Fault::AlreadyAbsent(4)),
-    (Move::Fit(3), Fault::NotOut(3)),
-    (Move::Fit(0), Fault::TooManyAbsent(3)),
-    (Move::Fill(3, 40), Fault::TicketRefused(3)),
-];
+fn three_out() -> [(Call<bool>, Fault); 11] {
+    [
+        (write(1, 1, 39), Fault::AreaTooShort(39)),
+        (write(5, 0, 40), Fault::NoSuchStation(5)),
+        (write(3, 1, 40), Fault::CheckPair(3)),
+        (write(1, 1, 40), Fault::TooManyAbsent(3)),
+        (read(3, 3, 40), Fault::CheckPair(3)),
+        (read(1, 0, 40), Fault::TooManyAbsent(3)),
+        (read(2, 1, 40), Fault::TooManyAbsent(3)),
+        (lose(4), Fault::AlreadyAbsent(4)),
+        (fit(3), Fault::NotOut(3)),
+        (fit(0), Fault::TooManyAbsent(3)),
+        (fill(3, 40), Fault::TicketRefused(3)),
+    ]
+}
 
-const FILLED: [(Move, Fault); 5] = [
-    (Move::Lose(1), Fault::AlreadyAbsent(1)),
-    (Move::Fit(1), Fault::NotOut(1)),
-    (Move::Fill(1, 39), Fault::AreaTooShort(39)),
-    (Move::Fill(3, 40), Fault::TicketRefused(3)),
-    (Move::Finish(1), Fault::TicketRefused(1)),
-];
+fn filled() -> [(Call<bool>, Fault); 5] {
+    [
+        (lose(1), Fault::AlreadyAbsent(1)),
+        (fit(1), Fault::NotOut(1)),
+        (fill(1, 39), Fault::AreaTooShort(39)),
+        (fill(3, 40), Fault::TicketRefused(3)),
+        (finish(1), Fault::TicketRefused(1)),
+    ]
+}
 
-const FILLED_TWO_OUT: [(Move, Fault); 9] = [
-    (Move::Write(2, 2, 40), Fault::TooManyAbsent(3)),
-    (Move::Read(2, 1, 40), Fault::TooManyAbsent(3)),
-    (Move::Read(0, 2, 40), Fault::TooManyAbsent(3)),
-    (Move::Fit(1), Fault::NotOut(1)),
-    (Move::Fit(0), Fault::FillingUnderWay(1)),
-    (Move::Fill(1, 39), Fault::AreaTooShort(39)),
-    (Move::Fill(3, 40), Fault::TicketRefused(3)),
-    (Move::Fill(1, 40), Fault::TooManyAbsent(3)),
-    (Move::Finish(1), Fault::TicketRefused(1)),
-];
+fn filled_two_out() -> [(Call<bool>, Fault); 9] {
+    [
+        (write(2, 2, 40), Fault::TooManyAbsent(3)),
+        (read(2, 1, 40), Fault::TooManyAbsent(3)),
+        (read(0, 2, 40), Fault::TooManyAbsent(3)),
+        (fit(1), Fault::NotOut(1)),
+        (fit(0), Fault::FillingUnderWay(1)),
+        (fill(1, 39), Fault::AreaTooShort(39)),
+        (fill(3, 40), Fault::TicketRefused(3)),
+        (fill(1, 40), Fault::TooManyAbsent(3)),
+        (finish(1), Fault::TicketRefused(1)),
+    ]
+}
 
 // The first seven fill station 1 but for its last partner.
-const BEFORE_FILLED: [Move; 9] = [
-    Move::Write(2, 1, 40),
-    Move::Lose(1),
-    Move::Fit(1),
-    Move::Fill(1, 40),
-    Move::Fill(1, 40),
-    Move::Fill(1, 40),
-    Move::Fill(1, 40),
-    Move::Lose(0),
-    Move::Lose(4),
-];
+fn before_filled() -> [Call<bool>; 9] {
+    [
+        write(2, 1, 40),
+        lose(1),
+        fit(1),
+        fill(1, 40),
+        fill(1, 40),
+        fill(1, 40),
+        fill(1, 40),
+        lose(0),
+        lose(4),
+    ]
+}
 
-const BEFORE_LOST: [Move; 4] = [
-    Move::Write(2, 0, 40),
-    Move::Lose(0),
-    Move::Lose(4),
-    Move::Lose(2),
-];
+fn before_lost() -> [Call<bool>; 4] {
+    [write(2, 0, 40), lose(0), lose(4), lose(2)]
+}
 
 #[test]
 fn refused_with_stations_out(rt: HostRuntime) -> Result<(), Fail> {
-    each_refuses(&rt, rt.alloc(), &BEFORE_LOST[0..1], &ALL_STAND)?;
-    each_refuses(&rt, rt.alloc(), &BEFORE_LOST[0..3], &TWO_OUT)?;
-    each_refuses(&rt, rt.alloc(), &BEFORE_LOST, &THREE_OUT)
+    each_refuses(&rt, &before_lost()[0..1], &all_stand())?;
+    each_refuses(&rt, &before_lost()[0..3], &two_out())?;
+    each_refuses(&rt, &before_lost(), &three_out())
 }
 
 #[test]
 fn refused_while_filling(rt: HostRuntime) -> Result<(), Fail> {
-    each_refuses(&rt, rt.alloc(), &BEFORE_FILLED[0..7], &FILLED)?;
-    each_refuses(&rt, rt.alloc(), &BEFORE_FILLED, &FILLED_TWO_OUT)
+    each_refuses(&rt, &before_filled()[0..7], &filled())?;
+    each_refuses(&rt, &before_filled(), &filled_two_out())
 }
 
 // Abandon refuses nothing: a stale ticket is spent, and nothing changes.
-fn untouched(rt: &impl Abort, heap: Global, before: &[Move], made: Move) -> Result<(), Fail> {
-    let last = Compared::play(heap, before, made, &[])?;
-    assert!(rt; last.changes_nothing(Answer::Untouched), "{:?}", made);
+fn untouched(
+    rt: &(impl Abort + AllocGlobal),
+    before: &[Call<bool>],
+    call: Call<bool>,
+) -> Result<(), Fail> {
+    let last = Compared::play(rt.alloc(), before, call, &[])?;
+    assert!(rt; last.changes_nothing(Answer::Untouched), "{:?}", call);
     Ok(())
 }
 
 #[test]
 fn stale_tickets_abandoned(rt: HostRuntime) -> Result<(), Fail> {
-    untouched(&rt, rt.alloc(), &BEFORE_FILLED, Move::AbandonOpen(3))?;
-    untouched(&rt, rt.alloc(), &BEFORE_LOST, Move::AbandonFull(1))
+    untouched(&rt, &before_filled(), abandon(3, Sort::Open))?;
+    untouched(&rt, &before_lost(), abandon(1, Sort::Full))
 }

@@ -90,7 +90,7 @@ fn refused_reads_and_writes(rt: HostRuntime) -> Result<(), Fail> {
 // a ticket cannot be let go, so each use takes the two apart at once.
 type Handed = (Ticket, Option<Fault>);
 
-// Fills by an open ticket.
+// Fills by an open ticket. The book and the work area make no struct: a ticket is tried at other books and in shorter areas.
 pub fn fill_by<S: WriteStore>(book: &mut Book<S>, ticket: Ticket, work: &mut [S::Block]) -> Handed {
     match ticket {
         Ticket::Open(open) => match book.fill(open, work) {
@@ -118,10 +118,10 @@ pub fn fill_up<S: WriteStore>(
 // Finishes by a full ticket, or hands the ticket back.
 pub fn finish_by<S: WriteStore>(book: &mut Book<S>, ticket: Ticket) -> Result<(), Handed> {
     match ticket {
-        Ticket::Full(full) => match book.finish(full) {
-            Ok(()) => Ok(()),
-            Err((back, fault)) => Err((Ticket::Full(back), Some(fault))),
-        },
+        Ticket::Full(full) => {
+            let answer = book.finish(full);
+            answer.map_err(|(back, fault)| (Ticket::Full(back), Some(fault)))
+        }
         Ticket::Open(open) => Err((Ticket::Open(open), None)),
     }
 }

@@ -11,7 +11,7 @@ pub const SEVEN: [u32; 15] = [
     0x37b_8000, 0x3df_0000, 0xe10_8000, 0x231_8000, 0x253_0000, 0x296_0000, 0x31c_0000,
 ];
 
-// A block of its own for each place.
+// A block of its own for each place. The trials of the stores have it too, and say why.
 pub fn sample(p: usize) -> Block {
     let byte = |i: usize| (p.wrapping_mul(37).wrapping_add(i.wrapping_mul(11)) % 251) as u8;
     Block::from(array::from_fn(byte))

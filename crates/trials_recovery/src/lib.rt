@@ -7,6 +7,8 @@ mod areas;
 #[cfg(test)]
 mod lawful;
 #[cfg(test)]
+mod loss_trials;
+#[cfg(test)]
 mod pattern_trials;
 #[cfg(test)]
 mod recover_trials;

@@ -10,16 +10,28 @@ use std::process::Abort;
 use std::test::Fail;
 use store::WriteStore;
 
-// Lays a row of blocks into the bytes of an image of five stations, and loses stations 1 and 4.
-fn lay_image(row: &[Block; 28], bytes: &mut [u8]) -> Result<(), Fail> {
+// The image that bytes are.
+pub fn image_in(bytes: &mut [u8]) -> Result<Image<'_>, Fault> {
+    check_image(bytes)?;
+    Ok(Image::make(bytes))
+}
+
+// Lays a row of blocks into the bytes of an image of five stations.
+pub fn lay_image(row: &[Block; 28], bytes: &mut [u8]) -> Result<(), Fail> {
     let header = bytes.first_chunk_mut().ok_or("no header")?;
     *header = [1, 0, 0, 3, 0xC5, 5, 0, 0, 0, 0];
-    check_image(bytes)?;
-    let mut image = Image::make(bytes);
+    let mut image = image_in(bytes)?;
     for (p, block) in row.iter().take(15).enumerate() {
         let pair = pair_at(p).ok_or("no such place")?;
         image.put(pair.larger, pair.smaller, *block)?;
     }
+    Ok(())
+}
+
+// The same, with stations 1 and 4 lost.
+fn lay_lost(row: &[Block; 28], bytes: &mut [u8]) -> Result<(), Fail> {
+    lay_image(row, bytes)?;
+    let mut image = image_in(bytes)?;
     image.take_out(1)?;
     image.take_out(4)?;
     Ok(())
@@ -29,7 +41,7 @@ fn lay_image(row: &[Block; 28], bytes: &mut [u8]) -> Result<(), Fail> {
 fn lost_pairs_of_an_image(rt: HostRuntime) -> Result<(), Fail> {
     let row = lawful_row(&FIVE);
     let mut bytes = [0; 970];
-    lay_image(&row, &mut bytes)?;
+    lay_lost(&row, &mut bytes)?;
     check_image(&bytes)?;
     recovers_each(
         &rt,
@@ -61,7 +73,7 @@ fn shown_right(rt: &impl Abort, bytes: &[u8], a: u8, b: u8, row: &[Block]) -> Re
 fn shown_bytes(rt: HostRuntime) -> Result<(), Fail> {
     let row = lawful_row(&FIVE);
     let mut bytes = [0; 970];
-    lay_image(&row, &mut bytes)?;
+    lay_lost(&row, &mut bytes)?;
     for a in 0..5 {
         for b in 0..5 {
             shown_right(&rt, &bytes, a, b, &row)?;
@@ -73,7 +85,7 @@ fn shown_bytes(rt: HostRuntime) -> Result<(), Fail> {
 // With a second area of this length, the showing of a pair is refused so.
 fn show_refused(rt: &impl Abort, a: u8, b: u8, length: usize, fault: Fault) -> Result<(), Fail> {
     let mut bytes = [0; 970];
-    lay_image(&lawful_row(&FIVE), &mut bytes)?;
+    lay_lost(&lawful_row(&FIVE), &mut bytes)?;
     let second = [0; 64];
     assert!(rt; length <= 64);
     assert_eq!(rt; shown(&bytes, a, b, &second[0..length]), Err(fault));

@@ -1,25 +1,24 @@
 // Records that are refused, what follows them, and records that are cut short.
 use crate::scripts::{Record, add_record, answers};
-use std::alloc::Global;
 use std::process::Abort;
 use std::test::Fail;
 
 // Records that stand at offset 1, and are followed by an audit.
-fn tells(rt: &impl Abort, heap: Global, records: &[u8], text: &[u8]) -> Result<(), Fail> {
-    let mut input = vec![in heap; 5]?;
+fn tells(rt: &(impl Abort + AllocGlobal), records: &[u8], text: &str) -> Result<(), Fail> {
+    let mut input = vec![in rt.alloc(); 5]?;
     input.extend_from_slice(records)?;
     input.extend_from_slice(&[1, 0, 1, b'C'])?;
-    answers(rt, heap, input.as_slice(), text)
+    answers(rt, input.as_slice(), text)
 }
 
 // After another version, or a record cut short, nothing more is read.
 #[test]
 fn session_ended(rt: HostRuntime) -> Result<(), Fail> {
     for records in ["\x00\x00\x01C", "\x02\x00\x01C", "\x7f\x00\x00", "C"] {
-        tells(&rt, rt.alloc(), records.as_bytes(), b"no 14 r 1\n")?;
+        tells(&rt, records.as_bytes(), "no 14 r 1\n")?;
     }
     for records in ["\x01\x00\x06Z", "\x01\x00\x43W\x00\x00", "\x01\x01\x01C"] {
-        tells(&rt, rt.alloc(), records.as_bytes(), b"no 16 r 1\n")?;
+        tells(&rt, records.as_bytes(), "no 16 r 1\n")?;
     }
     Ok(())
 }
@@ -39,12 +38,12 @@ fn session_goes_on(rt: HostRuntime) -> Result<(), Fail> {
         "\x01\x00\x03W\x00\x00",
     ];
     for records in lengths {
-        tells(&rt, rt.alloc(), records.as_bytes(), b"no 18 r 2\nsound\n")?;
+        tells(&rt, records.as_bytes(), "no 18 r 2\nsound\n")?;
     }
     for records in ["\x01\x00\x01Z", "\x01\x00\x01c", "\x01\x00\x03\x00\x00\x00"] {
-        tells(&rt, rt.alloc(), records.as_bytes(), b"no 17 r 4\nsound\n")?;
+        tells(&rt, records.as_bytes(), "no 17 r 4\nsound\n")?;
     }
-    tells(&rt, rt.alloc(), b"\x01\x00\x05Z", b"no 17 r 4\n")
+    tells(&rt, b"\x01\x00\x05Z", "no 17 r 4\n")
 }
 
 // Offsets count from the first byte of the input: an audit at 1, a loss at 5, an unknown letter at 10, a length of 0 at
@@ -57,9 +56,8 @@ fn offsets(rt: HostRuntime) -> Result<(), Fail> {
     ];
     tells(
         &rt,
-        rt.alloc(),
         &records,
-        b"sound\ndone\nno 17 r 13\nno 18 r 15\nno 18 r 18\nno 5 b 3\nno 14 r 28\n",
+        "sound\ndone\nno 17 r 13\nno 18 r 15\nno 18 r 18\nno 5 b 3\nno 14 r 28\n",
     )
 }
 
@@ -79,9 +77,9 @@ fn cut_at_every_byte(rt: HostRuntime) -> Result<(), Fail> {
         add_record(&mut whole, record)?;
         let input = whole.as_slice();
         assert!(rt; input.len() > 8);
-        answers(&rt, rt.alloc(), &input[0..5], b"sound\n")?;
+        answers(&rt, &input[0..5], "sound\n")?;
         for end in 6..input.len() {
-            answers(&rt, rt.alloc(), &input[0..end], b"sound\nno 16 r 5\n")?;
+            answers(&rt, &input[0..end], "sound\nno 16 r 5\n")?;
         }
     }
     Ok(())

@@ -1,12 +1,12 @@
 // The ends of what is answered: no byte, no size, no record, and the longest input.
-use crate::scripts::answers;
+use crate::scripts::{SIZES, answers};
 use std::test::Fail;
 
 #[test]
 fn shortest_inputs(rt: HostRuntime) -> Result<(), Fail> {
-    answers(&rt, rt.alloc(), &[], b"no 16 r 0\n")?;
-    for n in [3, 5, 7, 11, 13, 17, 19, 23, 29, 31] {
-        answers(&rt, rt.alloc(), &[n], b"")?;
+    answers(&rt, &[], "no 16 r 0\n")?;
+    for n in SIZES {
+        answers(&rt, &[n], "")?;
     }
     Ok(())
 }
@@ -25,8 +25,8 @@ fn no_size(rt: HostRuntime) -> Result<(), Fail> {
         (255, "no 1 b 255\n"),
     ];
     for (n, text) in cases {
-        answers(&rt, rt.alloc(), &[n], text.as_bytes())?;
-        answers(&rt, rt.alloc(), &[n, 1, 0, 1, b'C', 2], text.as_bytes())?;
+        answers(&rt, &[n], text)?;
+        answers(&rt, &[n, 1, 0, 1, b'C', 2], text)?;
     }
     Ok(())
 }
@@ -44,9 +44,9 @@ fn longest_input(rt: HostRuntime) -> Result<(), Fail> {
     input.extend_from_slice(&[1, 0, 0])?;
     text.push_str("no 18 r 16382\n")?;
     assert_eq!(rt; input.len(), 16_384);
-    answers(&rt, rt.alloc(), input.as_slice(), text.as_str().as_bytes())?;
+    answers(&rt, input.as_slice(), text.as_str())?;
     input.push(1)?;
-    answers(&rt, rt.alloc(), input.as_slice(), b"no 19 r 16384\n")?;
+    answers(&rt, input.as_slice(), "no 19 r 16384\n")?;
     let zeros = vec![in rt.alloc(); 0; 16_385]?;
-    answers(&rt, rt.alloc(), zeros.as_slice(), b"no 19 r 16384\n")
+    answers(&rt, zeros.as_slice(), "no 19 r 16384\n")
 }

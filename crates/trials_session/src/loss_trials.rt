@@ -1,5 +1,5 @@
 // Sessions that write, lose, replace and read.
-use crate::scripts::{Line, Record, plays};
+use crate::scripts::{Line, Record, SIZES, plays};
 use std::alloc::AllocError;
 use std::test::Fail;
 
@@ -14,7 +14,7 @@ fn worked_example(rt: HostRuntime) -> Result<(), Fail> {
         (Record::Replace(0), Line::Done),
         (Record::Audit, Line::Sound),
     ];
-    plays(&rt, rt.alloc(), 5, &script)
+    plays(&rt, 5, &script)
 }
 
 // Stations 0, 1 and 2 of five are data stations. A refusal changes nothing.
@@ -47,7 +47,7 @@ fn refused_orders(rt: HostRuntime) -> Result<(), Fail> {
         (Record::Read(1, 2), Line::Shows(0xf0)),
         (Record::Audit, Line::Sound),
     ];
-    plays(&rt, rt.alloc(), 5, &script)
+    plays(&rt, 5, &script)
 }
 
 // With three absent, a pair of two standing stations can still be read, and stations can be lost.
@@ -74,8 +74,11 @@ fn three_absent(rt: HostRuntime) -> Result<(), Fail> {
         (Record::Read(1, 1), Line::Shows(0)),
         (Record::Audit, Line::No(12, 'b', 0)),
     ];
-    plays(&rt, rt.alloc(), 5, &script)
+    plays(&rt, 5, &script)
 }
+
+// The data pairs of five stations, the larger station first.
+const DATA_PAIRS: [(u8, u8); 6] = [(0, 0), (1, 0), (1, 1), (2, 0), (2, 1), (2, 2)];
 
 // A byte of its own for each data pair of five stations, in a round of writes.
 fn byte_of(round: u8, a: u8, b: u8) -> u8 {
@@ -84,20 +87,16 @@ fn byte_of(round: u8, a: u8, b: u8) -> u8 {
 
 // Writes every data pair, the larger station first.
 fn write_all(script: &mut Vec<(Record, Line)>, round: u8) -> Result<(), AllocError> {
-    for a in 0..3 {
-        for b in 0..=a {
-            script.push((Record::Write(a, b, byte_of(round, a, b)), Line::Done))?;
-        }
+    for (a, b) in DATA_PAIRS {
+        script.push((Record::Write(a, b, byte_of(round, a, b)), Line::Done))?;
     }
     Ok(())
 }
 
 // Reads them back, the smaller station first.
 fn read_all(script: &mut Vec<(Record, Line)>, round: u8) -> Result<(), AllocError> {
-    for a in 0..3 {
-        for b in 0..=a {
-            script.push((Record::Read(b, a), Line::Shows(byte_of(round, a, b))))?;
-        }
+    for (a, b) in DATA_PAIRS {
+        script.push((Record::Read(b, a), Line::Shows(byte_of(round, a, b))))?;
     }
     Ok(())
 }
@@ -124,7 +123,7 @@ fn any_two_of_five(rt: HostRuntime) -> Result<(), Fail> {
             if s != t {
                 let mut script = Vec::new(rt.alloc());
                 lose_two(&mut script, s, t)?;
-                plays(&rt, rt.alloc(), 5, script.as_slice())?;
+                plays(&rt, 5, script.as_slice())?;
             }
         }
     }
@@ -134,7 +133,7 @@ fn any_two_of_five(rt: HostRuntime) -> Result<(), Fail> {
 // Of each size: the largest data station and the last check station are lost and replaced.
 #[test]
 fn every_size(rt: HostRuntime) -> Result<(), Fail> {
-    for n in [3u8, 5, 7, 11, 13, 17, 19, 23, 29, 31] {
+    for n in SIZES {
         let data = n.wrapping_sub(3);
         let check = n.wrapping_sub(2);
         let last = n.wrapping_sub(1);
@@ -150,7 +149,7 @@ fn every_size(rt: HostRuntime) -> Result<(), Fail> {
             (Record::Audit, Line::Sound),
             (Record::Read(data, 0), Line::Shows(0xc3)),
         ];
-        plays(&rt, rt.alloc(), n, &script)?;
+        plays(&rt, n, &script)?;
     }
     Ok(())
 }

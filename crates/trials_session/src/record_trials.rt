@@ -1,74 +1,66 @@
 // Single records, at the edge of each check.
+use faults::Fault;
 use orders::{Order, Record, read_record};
-use std::alloc::{AllocError, Global};
+use std::array;
+use std::process::Abort;
 use std::test::Fail;
 
-fn order_text(heap: Global, order: Order<'_>) -> Result<String, AllocError> {
-    match order {
-        Order::Read { a, b } => format!(in heap; "read {a} {b}"),
-        Order::Write { a, b, bytes } => format!(in heap; "write {a} {b} {bytes:?}"),
-        Order::Lose { station } => format!(in heap; "lose {station}"),
-        Order::Replace { station } => format!(in heap; "replace {station}"),
-        Order::Audit => format!(in heap; "audit"),
-    }
+// A record of so many bytes, with this order.
+fn asks(len: usize, order: Order<'_>) -> Result<Record<'_>, Fault> {
+    let order = Ok(order);
+    Ok(Record { order, len })
 }
 
-// What is read at an offset, as text.
-fn reading_text(heap: Global, input: &[u8], at: usize) -> Result<String, AllocError> {
-    match read_record(input, at) {
-        Ok(
-            Record {
-                order: Ok(order),
-                len,
-            },
-        ) => {
-            let text = order_text(heap, order)?;
-            format!(in heap; "{len}: {text}")
-        }
-        Ok(
-            Record {
-                order: Err(fault),
-                len,
-            },
-        ) => format!(in heap; "{len}: {fault}"),
-        Err(fault) => format!(in heap; "end: {fault}"),
-    }
+// A record of so many bytes that is refused, after which the next is read.
+fn refused<'a>(len: usize, fault: Fault) -> Result<Record<'a>, Fault> {
+    let order = Err(fault);
+    Ok(Record { order, len })
 }
 
 // Where several checks fail, the first is the answer.
 #[test]
-fn readings(rt: HostRuntime) -> Result<(), Fail> {
+fn readings(rt: HostRuntime) {
     let cases = [
-        ("\x01\x00\x03R\x04\x7f", 0, "6: read 4 127"),
-        ("\x01\x00\x02L\x00", 0, "5: lose 0"),
-        ("\x01\x00\x02P\x7f\x01", 0, "5: replace 127"),
-        ("\x01\x00\x01C", 0, "4: audit"),
-        ("\x05\x01\x00\x01C", 1, "4: audit"),
-        ("\x05\x01\x00\x01C", 2, "end: 14 r 2"),
-        ("\x05\x01\x00\x01C", 3, "end: 16 r 3"),
-        ("\x05\x01\x00\x01C", 5, "end: 16 r 5"),
-        ("\x05\x01\x00\x01C", 6, "end: 16 r 6"),
-        ("", 18446744073709551615, "end: 16 r 18446744073709551615"),
-        ("", 0, "end: 16 r 0"),
-        ("\x02\x00", 0, "end: 16 r 0"),
-        ("\x01\x00", 0, "end: 16 r 0"),
-        ("\x02\x00\x00", 0, "end: 14 r 0"),
-        ("\x00\x00\x01", 0, "end: 14 r 0"),
-        ("\x01\x00\x00", 0, "3: 18 r 1"),
-        ("\x01\x00\x00Z", 0, "3: 18 r 1"),
-        ("\x01\x00\x01", 0, "end: 16 r 0"),
-        ("\x01\x00\x02Z", 0, "end: 16 r 0"),
-        ("\x01\x00\x02C", 0, "end: 16 r 0"),
-        ("\x01\x01\x00C", 0, "end: 16 r 0"),
-        ("\x01\x00\x02Z\x00", 0, "5: 17 r 3"),
-        ("\x01\x00\x01R", 0, "4: 18 r 1"),
-        ("\x09\x01\x00\x02C\x00\x00", 1, "5: 18 r 2"),
+        (
+            "\x01\x00\x03R\x04\x7f",
+            0,
+            asks(6, Order::Read { a: 4, b: 127 }),
+        ),
+        ("\x01\x00\x02L\x00", 0, asks(5, Order::Lose { station: 0 })),
+        (
+            "\x01\x00\x02P\x7f\x01",
+            0,
+            asks(5, Order::Replace { station: 127 }),
+        ),
+        ("\x01\x00\x01C", 0, asks(4, Order::Audit)),
+        ("\x05\x01\x00\x01C", 1, asks(4, Order::Audit)),
+        ("\x05\x01\x00\x01C", 2, Err(Fault::WrongVersion(2))),
+        ("\x05\x01\x00\x01C", 3, Err(Fault::CutShort(3))),
+        ("\x05\x01\x00\x01C", 5, Err(Fault::CutShort(5))),
+        ("\x05\x01\x00\x01C", 6, Err(Fault::CutShort(6))),
+        ("", usize::MAX, Err(Fault::CutShort(usize::MAX))),
+        ("", 0, Err(Fault::CutShort(0))),
+        ("\x02\x00", 0, Err(Fault::CutShort(0))),
+        ("\x01\x00", 0, Err(Fault::CutShort(0))),
+        ("\x02\x00\x00", 0, Err(Fault::WrongVersion(0))),
+        ("\x00\x00\x01", 0, Err(Fault::WrongVersion(0))),
+        ("\x01\x00\x00", 0, refused(3, Fault::WrongRecordLength(1))),
+        ("\x01\x00\x00Z", 0, refused(3, Fault::WrongRecordLength(1))),
+        ("\x01\x00\x01", 0, Err(Fault::CutShort(0))),
+        ("\x01\x00\x02Z", 0, Err(Fault::CutShort(0))),
+        ("\x01\x00\x02C", 0, Err(Fault::CutShort(0))),
+        ("\x01\x01\x00C", 0, Err(Fault::CutShort(0))),
+        ("\x01\x00\x02Z\x00", 0, refused(5, Fault::UnknownLetter(3))),
+        ("\x01\x00\x01R", 0, refused(4, Fault::WrongRecordLength(1))),
+        (
+            "\x09\x01\x00\x02C\x00\x00",
+            1,
+            refused(5, Fault::WrongRecordLength(2)),
+        ),
     ];
-    for (input, at, text) in cases {
-        let told = reading_text(rt.alloc(), input.as_bytes(), at)?;
-        assert_eq!(rt; told.as_str(), text);
+    for (input, at, reading) in cases {
+        assert_eq!(rt; read_record(input.as_bytes(), at), reading);
     }
-    Ok(())
 }
 
 // The five letters, with every length up to 79: only one is right.
@@ -78,9 +70,9 @@ fn lengths(rt: HostRuntime) -> Result<(), Fail> {
         for len in 1..80u8 {
             let mut input = vec![in rt.alloc(); 1, 0, len, letter]?;
             input.extend_from_slice(&[7; 80])?;
-            let told = reading_text(rt.alloc(), input.as_slice(), 0)?;
+            let wrong = refused(3 + usize::from(len), Fault::WrongRecordLength(1));
             assert_eq!(rt;
-                told.as_str().ends_with(": 18 r 1"),
+                read_record(input.as_slice(), 0) == wrong,
                 len != right,
                 "{}",
                 len
@@ -92,16 +84,15 @@ fn lengths(rt: HostRuntime) -> Result<(), Fail> {
 
 // Every other letter is refused.
 #[test]
-fn letters(rt: HostRuntime) -> Result<(), Fail> {
+fn letters(rt: HostRuntime) {
     for letter in 0..=255u8 {
-        let told = reading_text(rt.alloc(), &[1, 0, 4, letter, 0, 0, 0], 0)?;
-        let text = match letter {
-            b'R' | b'W' | b'L' | b'P' | b'C' => "7: 18 r 1",
-            _ => "7: 17 r 3",
+        let fault = match letter {
+            b'R' | b'W' | b'L' | b'P' | b'C' => Fault::WrongRecordLength(1),
+            _ => Fault::UnknownLetter(3),
         };
-        assert_eq!(rt; told.as_str(), text, "{}", letter);
+        let input = [1, 0, 4, letter, 0, 0, 0];
+        assert_eq!(rt; read_record(&input, 0), refused(7, fault), "{}", letter);
     }
-    Ok(())
 }
 
 // The bytes of a write are the 64 after its stations.
@@ -109,17 +100,12 @@ fn letters(rt: HostRuntime) -> Result<(), Fail> {
 fn bytes_of_a_write(rt: HostRuntime) -> Result<(), Fail> {
     let mut input = vec![in rt.alloc(); 9, 1, 0, 67, b'W']?;
     input.extend(5..80)?;
-    match read_record(input.as_slice(), 1) {
-        Ok(
-            Record {
-                order: Ok(Order::Write { a: 5, b: 6, bytes }),
-                len: 70,
-            },
-        ) => {
-            assert_eq!(rt; bytes.len(), 64);
-            assert!(rt; bytes.iter().copied().eq(7..71));
-            Ok(())
-        }
-        _ => Err(Fail::new("no write")),
-    }
+    let bytes: [u8; 64] = array::from_fn(|i| ((i & 0xff) as u8).wrapping_add(7));
+    let order = Order::Write {
+        a: 5,
+        b: 6,
+        bytes: &bytes,
+    };
+    assert_eq!(rt; read_record(input.as_slice(), 1), asks(70, order));
+    Ok(())
 }

@@ -1,11 +1,14 @@
 // Scripts: the records of a session, each with the line that is to answer it.
-use std::alloc::{AllocError, Global};
+use std::alloc::AllocError;
 use std::fmt;
 use std::process::Abort;
 use std::test::Fail;
 use transcript::transcribe;
 
-// A record. The 64 bytes of a write are all the same.
+// The sizes.
+pub const SIZES: [u8; 10] = [3, 5, 7, 11, 13, 17, 19, 23, 29, 31];
+
+// A record. The 64 bytes of a write are all the same; an order of the library would lend them from elsewhere.
 #[derive(Clone, Copy)]
 pub enum Record {
     Read(u8, u8),
@@ -56,19 +59,23 @@ impl fmt::Display for Line {
 }
 
 // The input is answered by the text.
-pub fn answers(rt: &impl Abort, heap: Global, input: &[u8], text: &[u8]) -> Result<(), Fail> {
-    let told = transcribe(heap, input)?;
-    assert_eq!(rt; told.as_slice(), text, "{:?}", input);
+pub fn answers(rt: &(impl Abort + AllocGlobal), input: &[u8], text: &str) -> Result<(), Fail> {
+    let told = transcribe(rt.alloc(), input)?;
+    assert_eq!(rt; told.as_slice(), text.as_bytes(), "{:?}", input);
     Ok(())
 }
 
 // A session of n stations that is answered as its script says.
-pub fn plays(rt: &impl Abort, heap: Global, n: u8, script: &[(Record, Line)]) -> Result<(), Fail> {
-    let mut input = vec![in heap; n]?;
-    let mut text = String::new(heap);
+pub fn plays(
+    rt: &(impl Abort + AllocGlobal),
+    n: u8,
+    script: &[(Record, Line)],
+) -> Result<(), Fail> {
+    let mut input = vec![in rt.alloc(); n]?;
+    let mut text = String::new(rt.alloc());
     for (record, line) in script {
         add_record(&mut input, *record)?;
         writeln!(text, "{line}")?;
     }
-    answers(rt, heap, input.as_slice(), text.as_str().as_bytes())
+    answers(rt, input.as_slice(), text.as_str())
 }

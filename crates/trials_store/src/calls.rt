@@ -22,39 +22,44 @@ pub struct Refusal {
     pub fault: Fault,
 }
 
-// The fields of a refusal, a line for each.
-pub const REFUSALS: [(u8, Call, Fault); 30] = [
-    (0b00000, Call::IsIn(5), Fault::NoSuchStation(5)),
-    (0b00000, Call::IsIn(255), Fault::NoSuchStation(255)),
-    (0b00000, Call::TakeOut(5), Fault::NoSuchStation(5)),
-    (0b00000, Call::BringIn(5), Fault::NoSuchStation(5)),
-    (0b00000, Call::Get(7, 5), Fault::NoSuchStation(7)),
-    (0b00000, Call::Get(5, 7), Fault::NoSuchStation(5)),
-    (0b00000, Call::Get(0, 5), Fault::NoSuchStation(5)),
-    (0b00000, Call::Get(5, 0), Fault::NoSuchStation(5)),
-    (0b00000, Call::Put(7, 5), Fault::NoSuchStation(7)),
-    (0b00000, Call::Put(5, 7), Fault::NoSuchStation(5)),
-    (0b00000, Call::Put(0, 5), Fault::NoSuchStation(5)),
-    (0b00000, Call::Put(5, 0), Fault::NoSuchStation(5)),
-    (0b00001, Call::Get(0, 5), Fault::NoSuchStation(5)),
-    (0b00001, Call::Put(0, 5), Fault::NoSuchStation(5)),
-    (0b00001, Call::TakeOut(0), Fault::AlreadyOut(0)),
-    (0b11000, Call::TakeOut(3), Fault::AlreadyOut(3)),
-    (0b11000, Call::TakeOut(4), Fault::AlreadyOut(4)),
-    (0b00000, Call::BringIn(0), Fault::AlreadyIn(0)),
-    (0b01000, Call::BringIn(4), Fault::AlreadyIn(4)),
-    (0b11110, Call::BringIn(0), Fault::AlreadyIn(0)),
-    (0b01000, Call::Get(3, 3), Fault::StationOut(3)),
-    (0b01000, Call::Get(3, 0), Fault::StationOut(3)),
-    (0b01000, Call::Get(4, 3), Fault::StationOut(3)),
-    (0b01010, Call::Get(3, 1), Fault::StationOut(1)),
-    (0b01010, Call::Get(1, 3), Fault::StationOut(1)),
-    (0b01000, Call::Put(3, 3), Fault::StationOut(3)),
-    (0b01000, Call::Put(3, 0), Fault::StationOut(3)),
-    (0b01000, Call::Put(4, 3), Fault::StationOut(3)),
-    (0b01010, Call::Put(3, 1), Fault::StationOut(1)),
-    (0b01010, Call::Put(1, 3), Fault::StationOut(1)),
-];
+fn refused(out: u8, call: Call, fault: Fault) -> Refusal {
+    Refusal { out, call, fault }
+}
+
+pub fn refusals() -> [Refusal; 30] {
+    [
+        refused(0b00000, Call::IsIn(5), Fault::NoSuchStation(5)),
+        refused(0b00000, Call::IsIn(255), Fault::NoSuchStation(255)),
+        refused(0b00000, Call::TakeOut(5), Fault::NoSuchStation(5)),
+        refused(0b00000, Call::BringIn(5), Fault::NoSuchStation(5)),
+        refused(0b00000, Call::Get(7, 5), Fault::NoSuchStation(7)),
+        refused(0b00000, Call::Get(5, 7), Fault::NoSuchStation(5)),
+        refused(0b00000, Call::Get(0, 5), Fault::NoSuchStation(5)),
+        refused(0b00000, Call::Get(5, 0), Fault::NoSuchStation(5)),
+        refused(0b00000, Call::Put(7, 5), Fault::NoSuchStation(7)),
+        refused(0b00000, Call::Put(5, 7), Fault::NoSuchStation(5)),
+        refused(0b00000, Call::Put(0, 5), Fault::NoSuchStation(5)),
+        refused(0b00000, Call::Put(5, 0), Fault::NoSuchStation(5)),
+        refused(0b00001, Call::Get(0, 5), Fault::NoSuchStation(5)),
+        refused(0b00001, Call::Put(0, 5), Fault::NoSuchStation(5)),
+        refused(0b00001, Call::TakeOut(0), Fault::AlreadyOut(0)),
+        refused(0b11000, Call::TakeOut(3), Fault::AlreadyOut(3)),
+        refused(0b11000, Call::TakeOut(4), Fault::AlreadyOut(4)),
+        refused(0b00000, Call::BringIn(0), Fault::AlreadyIn(0)),
+        refused(0b01000, Call::BringIn(4), Fault::AlreadyIn(4)),
+        refused(0b11110, Call::BringIn(0), Fault::AlreadyIn(0)),
+        refused(0b01000, Call::Get(3, 3), Fault::StationOut(3)),
+        refused(0b01000, Call::Get(3, 0), Fault::StationOut(3)),
+        refused(0b01000, Call::Get(4, 3), Fault::StationOut(3)),
+        refused(0b01010, Call::Get(3, 1), Fault::StationOut(1)),
+        refused(0b01010, Call::Get(1, 3), Fault::StationOut(1)),
+        refused(0b01000, Call::Put(3, 3), Fault::StationOut(3)),
+        refused(0b01000, Call::Put(3, 0), Fault::StationOut(3)),
+        refused(0b01000, Call::Put(4, 3), Fault::StationOut(3)),
+        refused(0b01010, Call::Put(3, 1), Fault::StationOut(1)),
+        refused(0b01010, Call::Put(1, 3), Fault::StationOut(1)),
+    ]
+}
 
 fn answer<S: WriteStore<Block = Block>>(
     store: &mut S,

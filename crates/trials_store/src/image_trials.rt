@@ -1,5 +1,5 @@
 // Images of five stations: what a call refuses, and which bytes it changes.
-use crate::calls::{REFUSALS, Refusal, news, put_all};
+use crate::calls::{news, put_all, refusals};
 use crate::samples::{PAIRS, blocks_of, image_of, sample_row};
 use faults::Fault;
 use image::{Image, ReadImage, check_image};
@@ -16,11 +16,11 @@ fn image_in(bytes: &mut [u8; 970]) -> Result<Image<'_>, Fault> {
 
 #[test]
 fn calls_refused(rt: HostRuntime) -> Result<(), Fail> {
-    for (out, call, fault) in REFUSALS {
-        let before = image_of(&sample_row(), out);
+    for refusal in refusals() {
+        let before = image_of(&sample_row(), refusal.out);
         let mut bytes = before;
-        Refusal { out, call, fault }.holds_on(&rt, &mut image_in(&mut bytes)?);
-        assert!(rt; bytes == before, "{:?}", call);
+        refusal.holds_on(&rt, &mut image_in(&mut bytes)?);
+        assert!(rt; bytes == before, "{:?}", refusal.call);
     }
     Ok(())
 }
@@ -42,7 +42,7 @@ fn reads_back(rt: &impl Abort, bytes: &[u8]) -> Result<(), Fail> {
         for b in 0..5 {
             let mut got = Block::zero();
             assert_eq!(rt; image.get(a, b, &mut got), Ok(()));
-            assert_eq!(rt; *got.as_bytes(), *news(a.max(b), a.min(b)).as_bytes());
+            assert_eq!(rt; got, news(a.max(b), a.min(b)));
         }
     }
     Ok(())

@@ -6,8 +6,6 @@ mod calls;
 #[cfg(test)]
 mod image_trials;
 #[cfg(test)]
-mod loss_trials;
-#[cfg(test)]
 mod samples;
 #[cfg(test)]
 mod table_trials;

@@ -1,5 +1,5 @@
 // Tables: which rows are refused, what a call refuses, and what it leaves of the row.
-use crate::calls::{REFUSALS, Refusal, marked, news, put_all};
+use crate::calls::{Refusal, marked, news, put_all, refusals};
 use crate::samples::{PAIRS, sample_row};
 use faults::Fault;
 use kinds::{Block, BlockKind};
@@ -59,9 +59,9 @@ fn table_refuses(rt: &impl Abort, row: &mut [Block], refusal: Refusal) -> Result
 
 #[test]
 fn calls_refused(rt: HostRuntime) -> Result<(), Fail> {
-    for (out, call, fault) in REFUSALS {
+    for refusal in refusals() {
         let mut row = sample_row();
-        table_refuses(&rt, &mut row, Refusal { out, call, fault })?;
+        table_refuses(&rt, &mut row, refusal)?;
         assert_eq!(rt; row, sample_row());
     }
     Ok(())
