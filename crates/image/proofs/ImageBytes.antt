@@ -1,12 +1,13 @@
 -- What a checked image has.
-use Rattle.std.proofs.Common.{◌≡◌, ℕ, zero, suc, ◌+◌, ◌*◌, ◌/◌, ◌^◌, ◌<◌, ◌≤◌, Bool, true, false, cond, not, ◌&&◌, ◌||◌, eqb, ltb, List, [], ◌∷◌, length, get_or, take, drop, is_ok, Ok, Err, Result, sym, refl, ap, ◌∙◌, ap₂, add-zero, add-one, arith, lit<}
+use Rattle.std.proofs.Common.{◌≡◌, ℕ, zero, suc, ◌+◌, ◌*◌, ◌/◌, ◌^◌, ◌<◌, ◌≤◌, Bool, true, false, cond, not, ◌&&◌, ◌||◌, eqb, ltb, List, ◌∷◌, length, get_or, take, drop, is_ok, Ok, Err, Result, sym, refl, ap, ◌∙◌, ap₂, add-zero, add-one, arith, lit<}
 use Rattle.std.proofs.lemmas.List.{drop_more}
 use Rattle.std.proofs.lemmas.Bool.{and_parts, and_from, eqb-true, eq-eqb, ltb-false, le-ltb, both_ways}
 use Rattle.std.proofs.lemmas.Bool.Decides.{nat_tests}
 use Rattle.code.specs.Marks.{marked}
 use Rattle.code.specs.Sizes.{among, sizes, pairs}
 use Rattle.faults.specs.declared.faults.Fault.{Fault}
-use Rattle.image.specs.Images.{image_check, image_version, image_size, image_marks, big_endian, part, block_offset, IsImage, show_answer, shown_bytes}
+use Rattle.kinds.specs.Parts.{part}
+use Rattle.image.specs.Images.{image_check, image_version, image_size, image_marks, big_endian, block_offset, IsImage, show_answer, shown_bytes}
 use Rattle.store.specs.Meaning.{mark_answer}
 use Rattle.store.specs.declared.rolls.Roll.{Roll}
 use Rattle.store.proofs.Gets.{mark_ok}
@@ -75,13 +76,6 @@ unfolding part
 part_same bs bs' i zero h = refl
 part_same bs bs' i (suc k) h =
     ap₂ ◌∷◌ (rw add-zero at (h 0 (omega arith))) (part_same bs bs' (suc i) k (λ j l. let e : suc i + j ≡ i + suc j = omega arith in rw e (h (suc j) (omega arith))))
-
--- a part that has the bytes of a list is that list
-pub part_is : (bs : List ℕ) (i : ℕ) (xs : List ℕ) → ((j : ℕ) → j < length xs → get_or bs (i + j) 0 ≡ get_or xs j 0) → part bs i (length xs) ≡ xs
-unfolding part
-part_is bs i [] h = refl
-part_is bs i (x ∷ xs) h =
-    ap₂ ◌∷◌ (rw add-zero at (h 0 (omega arith))) (part_is bs (suc i) xs (λ j l. let e : suc i + j ≡ i + suc j = omega arith in rw e (h (suc j) (omega arith))))
 
 -- what a pair of an image shows: its own part if both stations are in, else the second area
 pub shows : (bs second : List ℕ) (r : Roll) (a b : ℕ) (x y : Bool) → r.size.number ≡ image_size bs → r.out.bits ≡ image_marks bs → 64 ≤ length second → Ok x ≡ mark_answer r.size.number (marked r.out.bits) a → Ok y ≡ mark_answer r.size.number (marked r.out.bits) b → (show_answer (image_size bs) (length second) a b ≡ Ok tt) × (shown_bytes bs second a b ≡ cond (x && y) (part bs (block_offset a b) 64) (take 64 second))

@@ -1,30 +1,21 @@
 -- What writes to an image's bytes do to what they mean.
-use Rattle.std.proofs.Common.{◌≡◌, ℕ, ◌+◌, ◌*◌, ◌/◌, ◌%◌, ◌^◌, ◌<◌, ◌≤◌, min, max, true, false, ◌≢◌, ◌⊎◌, List, length, get_or, replicate, sym, refl, ap, ◌∙◌, subst, subst₂, inl, inr, mod-eq_of_lt, arith, lit<, rules}
-use borrow.Rule.Slice.PartMut.{put_mid}
+use Rattle.std.proofs.Common.{◌≡◌, ℕ, ◌+◌, ◌*◌, ◌/◌, ◌%◌, ◌^◌, ◌<◌, ◌≤◌, min, max, true, false, ◌≢◌, ◌⊎◌, List, length, get_or, replicate, sym, ap, ◌∙◌, subst, subst₂, inl, inr, mod-eq_of_lt, arith, lit<}
 use Rattle.std.proofs.lemmas.Nat.{shr-shr, div-add-mod', div_below}
-use Rattle.std.proofs.lemmas.List.{places, get_or-replicate}
+use Rattle.std.proofs.lemmas.List.{get_or-replicate}
 use Rattle.std.proofs.lemmas.Bool.{cases_eq, cases_lt}
 use Rattle.kinds.specs.Bytes.{same_block}
 use Rattle.code.specs.Marks.{marked, Marked}
 use Rattle.code.specs.Places.{pair_place}
 use Rattle.kinds.specs.declared.blocks.Block.{Block}
 use Rattle.code.proofs.Table.{place_only}
-use Rattle.image.specs.Images.{image_size, image_marks, image_meaning, part, block_offset, block_at, Overwritten, Filled, TakenOut, BroughtIn, IsImage, be_bytes}
+use Rattle.image.specs.Images.{image_size, image_marks, image_meaning, block_offset, Overwritten, Filled, TakenOut, BroughtIn, IsImage, be_bytes}
 use Rattle.store.specs.Meaning.{Written, Remarked}
-use Rattle.image.proofs.ImageBytes.{part_same, part_is}
+use Rattle.kinds.specs.Parts.{part, block_at}
+use Rattle.kinds.proofs.Parts.{part_is}
+use Rattle.image.proofs.ImageBytes.{part_same}
 use Rattle.store.specs.declared.rolls.Roll.{Roll}
 use Rattle.store.specs.Rolls.{Turned}
 use Rattle.store.proofs.TableRows.{place_ordered}
-
--- a copy into a part of the bytes
-pub pasted : (bs : List ℕ) (at k : ℕ) (xs ys : List ℕ) → at + length xs ≤ length bs → k ≡ length xs → ys ≡ xs → Overwritten bs at xs (put_mid at k bs ys)
-pasted bs at k xs ys l e f =
-    let m : length ys ≡ length xs = ap length f in
-    record {
-      long = search (rules, places);
-      inside = λ j lj. let n : j < length ys = omega arith in grind (arith, places) ∙ ap (λ zs. get_or zs j 0) f;
-      outside = λ j h. elim h [ inl n ↦ grind (arith, places) | inr n ↦ grind (arith, places) ];
-    }
 
 -- two blocks lie apart
 pub apart : (p q j : ℕ) → p ≢ q → j < 64 → (10 + 64 * p + j < 10 + 64 * q) ⊎ (10 + 64 * q + 64 ≤ 10 + 64 * p + j)
@@ -35,9 +26,6 @@ pub other_place : (a b c d : ℕ) → ((max a b ≡ max c d) × (min a b ≡ min
 other_place a b c d h e = h (place_only a b c d e)
 
 -- one block more is filled
-pub filled_none : (bs : List ℕ) (s : ℕ) → Filled bs s 0 bs
-filled_none bs s = record { long = refl; header = λ p _. refl; lost = λ t j l _. absurd (omega arith); others = λ a b j _ _ _. refl }
-
 pub filled_more : (bs bs₁ bs₂ : List ℕ) (s k : ℕ) → Filled bs s k bs₁ → Overwritten bs₁ (block_offset s k) (replicate 64 238) bs₂ → Filled bs s (k + 1) bs₂
 filled_more bs bs₁ bs₂ s k f o = record {
   long = o.long ∙ f.long;

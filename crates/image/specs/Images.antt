@@ -4,12 +4,12 @@
 --   5      the size n
 --   6 to 9 the marks, big_endian: the bit of weight 2^s is set where station s is out
 --   10 on  N blocks of 64 bytes
-use Rattle.std.specs.Prelude.{◌≡◌, ℕ, zero, suc, ◌+◌, ◌*◌, ◌/◌, ◌%◌, ◌^◌, ◌<◌, ◌≤◌, true, false, cond, ◌&&◌, ◌||◌, ◌≢◌, ◌⊎◌, List, [], ◌∷◌, length, take, Ok, Err, Result, ◌==◌, nat_le, nat_lt, slice_index, is_ok, ◌↔◌, refl}
-use Rattle.std.proofs.Common.{ap}
+use Rattle.std.specs.Prelude.{◌≡◌, ℕ, ◌+◌, ◌*◌, ◌/◌, ◌%◌, ◌^◌, ◌<◌, ◌≤◌, true, false, cond, ◌&&◌, ◌||◌, ◌≢◌, ◌⊎◌, List, [], ◌∷◌, length, take, Ok, Err, Result, ◌==◌, nat_le, nat_lt, slice_index, is_ok, ◌↔◌}
 use Rattle.std.specs.Borrow.{Bor}
 use Rattle.code.specs.Marks.{marked, Marked}
 use Rattle.code.specs.Places.{pair_place}
 use Rattle.code.specs.Sizes.{among, sizes, pairs}
+use Rattle.kinds.specs.Parts.{part, block_at}
 use Rattle.kinds.specs.declared.blocks.Block.{Block}
 use Rattle.faults.specs.declared.faults.Fault.{Fault}
 use Rattle.faults.specs.declared.faults.Fault.TheVariants.{NotASize, AreaTooShort, NoSuchStation, WrongLength, WrongVersion, StrayMarks}
@@ -58,23 +58,9 @@ pub record IsImage (bs : List ℕ) : Type 0 where
 abbrev pub PassesImages : Type 0
 PassesImages = (bs : List ℕ) → (is_ok (image_check bs) ≡ true) ↔ IsImage bs
 
--- k bytes from i on, 0 where there is none
-unfoldable pub part : List ℕ → ℕ → ℕ → List ℕ
-part bs i zero = []
-part bs i (suc k) = slice_index bs i ∷ part bs (suc i) k
-
-pub length_part : (bs : List ℕ) (i k : ℕ) → length (part bs i k) ≡ k
-unfolding part
-length_part bs i zero = refl
-length_part bs i (suc k) = ap suc (length_part bs (suc i) k)
-
 -- where the block of a pair begins
 abbrev pub block_offset : ℕ → ℕ → ℕ
 block_offset a b = 10 + 64 * pair_place a b
-
--- the 64 bytes from i on as a block
-abbrev pub block_at : List ℕ → ℕ → Block
-block_at bs i = record { bytes = part bs i 64; long = length_part bs i 64 }
 
 -- what the bytes of an image mean
 abbrev pub image_meaning : List ℕ → Meaning Block

@@ -2,7 +2,8 @@
 ghost use Rattle.std.specs.Prelude.{◌≡◌, ◌<◌, true, is_ok};
 ghost use Rattle.code.specs.Places.{pair_place};
 ghost use Rattle.code.specs.Sizes.{pairs as pair_count};
-ghost use Rattle.image.specs.Images.{image_check, image_size, image_marks, image_meaning, block_offset, part, IsImage, PassesImages, Shown};
+ghost use Rattle.kinds.specs.Parts.{part};
+ghost use Rattle.image.specs.Images.{image_check, image_size, image_marks, image_meaning, block_offset, IsImage, PassesImages, Shown};
 
 use crate::layout::{Header, offset_of};
 use code::{Marks, Size};

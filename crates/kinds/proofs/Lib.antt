@@ -1,2 +1,3 @@
 mod Digits
 mod Made
+pub mod Parts

@@ -4,6 +4,7 @@
 pub mod bits;
 pub mod blocks;
 pub mod kinds;
+pub mod padded;
 pub mod texts;
 pub mod xor;
 

@@ -27,14 +27,6 @@ impl fmt::Display for Text {
     }
 }
 
-// The first 64 bytes of a text, and zeros after a shorter one.
-fn block_of(text: &str) -> Block {
-    let mut bytes = [0; 64];
-    let len = text.len().min(64);
-    bytes[..len].copy_from_slice(&text.as_bytes()[..len]);
-    Block::from(bytes)
-}
-
 // The same call, with another block where it writes one.
 fn with_block<B, C, F: FnOnce(B) -> C>(call: Call<B>, to: F) -> Call<C>
     requires { F.IsAlwaysCallable to }
@@ -55,10 +47,10 @@ fn with_block<B, C, F: FnOnce(B) -> C>(call: Call<B>, to: F) -> Call<C>
     }
 }
 
-// A call that writes the block of a text, and no answer yet.
+// A call that writes the block of a text, its first 64 bytes, and no answer yet.
 pub fn turn(call: Call<&'static str>) -> Turn<Block> {
     Turn {
-        call: with_block(call, |text| block_of(text)),
+        call: with_block(call, |text| Block::padded(text.as_bytes())),
         answer: Answer::NotMade,
     }
 }

@@ -1,4 +1,3 @@
 pub mod Gets
 pub mod TableRows
-pub mod Afters
 pub mod Nexts

@@ -1,9 +1,7 @@
 -- What a change of a row or of the marks does to what a table means.
-use Rattle.std.proofs.Common.{◌≡◌, ℕ, ◌<◌, ◌≤◌, min, max, true, List, length, get_or, set, sym, refl, ap, ◌∙◌, arith}
+use Rattle.std.proofs.Common.{◌≡◌, ℕ, ◌<◌, min, max, List, length, get_or, set, sym, refl, ap, ◌∙◌, arith}
 use Rattle.std.proofs.lemmas.List.{get_or-set_same, get_or-set_other}
 use Rattle.code.specs.Places.{pair_place}
-use Rattle.code.specs.Sizes.{among, sizes}
-use Rattle.code.proofs.Primes.{listed_prime}
 use Rattle.code.proofs.Table.{place_only}
 use Rattle.store.specs.Meaning.{Written}
 use Rattle.store.specs.Tables.{table_meaning}
@@ -14,10 +12,6 @@ place_ordered a b =
     let p : max (max a b) (min a b) ≡ max a b = omega arith in
     let q : min (max a b) (min a b) ≡ min a b = omega arith in
     rw (p, q)
-
--- a size is below 32, and so are its stations
-pub size_small : (n : ℕ) → among n sizes ≡ true → n ≤ 31
-size_small n t = (listed_prime n t).1
 
 -- a row with a block laid at a pair's place
 pub row_written : {B : Type 0} (none : B) (n bits : ℕ) (row : List B) (a b at : ℕ) (x : B) → at ≡ pair_place a b → at < length row → Written (table_meaning none n bits row) a b x (table_meaning none n bits (set row at x))

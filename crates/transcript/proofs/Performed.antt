@@ -39,10 +39,6 @@ module _ {B : Type 0} (G : Group B) (t : Tally B) (st : State B) (len : ℕ) (R 
     ready = subst (λ o. Ready G (by_refusal o (leaves (size_of st) t q) (λ _. t)) st len) (sym e) R;
   }
 
-  -- a record that is no request
-  pub unread : (f : Fault) → Performed G t st len (Err f) (reply.Refused f) st
-  unread f = record { reply = refl; size = refl; ready = R }
-
   -- a call that hands out nothing
   concluded : (q : Request B) (st' : State B) (o : Option Fault) (r : Result (Unit {0}) Fault) → refusal (size_of st) t q ≡ o → r ≡ outcome o → granted (size_of st) t q ≡ reply.Done
       → (r ≡ Ok tt → Ready G (leaves (size_of st) t q) st' len × (size_of st' ≡ size_of st)) → ((f : Fault) → r ≡ Err f → st' ≡ st)

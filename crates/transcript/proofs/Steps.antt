@@ -1,5 +1,5 @@
 -- Requests made one after the other.
-use Rattle.std.proofs.Common.{◌≡◌, ℕ, ◌+◌, ◌<◌, ◌≤◌, List, [], ◌∷◌, ◌++◌, length, get_or, take, drop, set, sym, refl, ap, ◌∙◌, subst, ap₂, arith}
+use Rattle.std.proofs.Common.{◌≡◌, ℕ, ◌+◌, ◌<◌, ◌≤◌, List, [], ◌∷◌, ◌++◌, length, get_or, take, drop, set, sym, ap, ◌∙◌, subst, ap₂, arith}
 use Rattle.std.proofs.Math.Seq.{map-set_same}
 use Rattle.std.proofs.lemmas.List.{append-nil, append_assoc, map-append, take_more_set, take_all, drop_more, drop_all, drop-set-lt}
 use Rattle.kinds.specs.Group.{Group}
@@ -17,9 +17,6 @@ pub record PerformedTo {B : Type 0} (G : Group B) (t : Tally B) (st : State B) (
   pub rest : replies_of (take i steps) ++ replies (size_of st) now (requests_of (drop i steps)) ≡ replies (size_of st) t (requests_of steps)
 
 module _ {B : Type 0} (G : Group B) (t : Tally B) (st : State B) (len : ℕ) (steps : List (Step B)) where
-  pub none_yet : Ready G t st len → PerformedTo G t st len 0 steps st
-  none_yet R = record { now = t; ready = R; size = refl; rest = refl }
-
   pub all_done : (i : ℕ) (st' : State B) → length steps ≤ i → PerformedTo G t st len i steps st' → replies_of steps ≡ replies (size_of st) t (requests_of steps)
   all_done i st' l P =
       sym (ap₂ (λ xs ys. replies_of xs ++ replies (size_of st) P.now (requests_of ys)) (take_all i steps l) (drop_all i steps l) ∙ append-nil (replies_of steps)) ∙ P.rest

@@ -3,7 +3,7 @@ use Rattle.std.specs.Prelude.{ℕ, zero, suc, ◌+◌, cond, List, [], ◌∷◌
 use Rattle.code.specs.Sizes.{among, sizes}
 use Rattle.faults.specs.declared.faults.Fault.{Fault}
 use Rattle.faults.specs.declared.faults.Fault.TheVariants.{NotASize, CutShort, SessionTooLong}
-use Rattle.image.specs.Images.{block_at}
+use Rattle.kinds.specs.Parts.{block_at}
 use Rattle.kinds.specs.Bytes.{byte_group}
 use Rattle.kinds.specs.declared.blocks.Block.{Block}
 use Rattle.orders.specs.Lines.{line}

@@ -1,5 +1,4 @@
 // Orders as values, with a place for the reply to each.
-ghost use Rattle.image.specs.Images.{block_at};
 ghost use Rattle.std.specs.Prelude.{◌≡◌};
 
 use faults::Fault;
@@ -24,16 +23,6 @@ pub struct Step<B> {
     pub reply: Reply<B>,
 }
 
-// The first 64 bytes, and zeros after a shorter slice.
-fn block_of(bytes: &[u8]) -> Block
-    ensures { result ≡ block_at bytes.now 0 }
-{
-    let mut block = [0; 64];
-    let len = bytes.len().min(64);
-    block[..len].copy_from_slice(&bytes[..len]);
-    Block::from(block)
-}
-
 impl From<Order<'_>> for Request<Block> {
     ghost use Rattle.orders.specs.Records.{asked};
     ghost use Rattle.transcript.specs.Sessions.{request_of};
@@ -46,7 +35,7 @@ impl From<Order<'_>> for Request<Block> {
             Order::Write { a, b, bytes } => Request::Write {
                 a,
                 b,
-                block: block_of(bytes),
+                block: Block::padded(bytes),
             },
             Order::Lose { station } => Request::Lose { station },
             Order::Replace { station } => Request::Replace { station },

@@ -55,6 +55,17 @@ fn blocks(rt: HostRuntime) {
     );
 }
 
+// Blocks of a few bytes: zeros follow, and what is past the 64th is left out.
+#[test]
+fn padded(rt: HostRuntime) {
+    let bytes: [u8; 70] = array::from_fn(|i| i as u8 + 1);
+    for len in [0, 1, 63, 64, 65, 70] {
+        let block = Block::padded(&bytes[..len]);
+        let wanted = array::from_fn(|i| if i < len { bytes[i] } else { 0 });
+        assert_eq!(rt; block, Block::from(wanted), "{}", len);
+    }
+}
+
 // The two digits of some bytes.
 const DIGITS: [(u8, [u8; 2]); 7] = [
     (0, *b"00"),

@@ -1,9 +1,9 @@
 use Rattle.std.proofs.Common.{◌≡◌, ℕ, ◌+◌, ◌<◌, min, List, ◌++◌, length, get_or, take, drop, replicate, sym, ◌∙◌, subst, arith}
 use Rattle.std.proofs.lemmas.Grind.{common_steps}
 use Rattle.kinds.specs.Bytes.{same_block}
-use Rattle.image.specs.Images.{part}
-use Rattle.image.proofs.ImageBytes.{part_is}
-use Rattle.transcript.proofs.requests.block_of.Goals as goal
+use Rattle.kinds.specs.Parts.{part}
+use Rattle.kinds.proofs.Parts.{part_is}
+use Rattle.kinds.proofs.blocks.Block.padded.Goals as goal
 
 -- the first n bytes, and zeros up to m
 abbrev filled : List ℕ → ℕ → ℕ → List ℕ
