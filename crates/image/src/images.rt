@@ -90,6 +90,7 @@ impl ReadStore for Image<'_> {
     }
 }
 
+// What is answered stands in the clause on the bytes, from which the interface's clause on the answer follows.
 impl WriteStore for Image<'_> {
     fn put(&mut self, a: u8, b: u8, x: Block) -> Result<(), Fault>
         ensures after { AfterPut (image_meaning self.old.bytes.now) a b x result (image_meaning self.new.bytes.now) }

@@ -87,6 +87,7 @@ impl<B: BlockKind> ReadStore for Table<'_, B> {
     }
 }
 
+// A method's own clause, here that the row is still the one lent, stands in place of the interface's, so these are repeated.
 impl<B: BlockKind> WriteStore for Table<'_, B> {
     ghost use Rattle.store.specs.TableMeanings.{means_of};
 
