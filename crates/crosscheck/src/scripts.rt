@@ -54,10 +54,10 @@ impl Script {
         }
     }
 
-    // The first turn that is not as the model wants it.
+    // The first turn that is not as the model wants it, or that the model has none for.
     pub fn first_other(&self) -> Option<usize> {
-        let mut turns = self.turns.iter().zip(self.wanted.iter());
-        turns.position(|(turn, wanted)| *turn != *wanted)
+        let mut turns = self.turns.iter().enumerate();
+        turns.position(|(k, turn)| self.wanted.get(k) != Some(turn))
     }
 }
 

@@ -70,13 +70,14 @@ fn lengths(rt: HostRuntime) -> Result<(), Fail> {
         for len in 1..80u8 {
             let mut input = vec![in rt.alloc(); 1, 0, len, letter]?;
             input.extend_from_slice(&[7; 80])?;
-            let wrong = refused(3 + usize::from(len), Fault::WrongRecordLength(1));
-            assert_eq!(rt;
-                read_record(input.as_slice(), 0) == wrong,
-                len != right,
-                "{}",
-                len
-            );
+            let record = read_record(input.as_slice(), 0)?;
+            let refusal = if len == right {
+                None
+            } else {
+                Some(Fault::WrongRecordLength(1))
+            };
+            assert_eq!(rt; record.len, 3 + usize::from(len), "{}", len);
+            assert_eq!(rt; record.order.err(), refusal, "{}", len);
         }
     }
     Ok(())
