@@ -2,31 +2,19 @@
 ghost use Rattle.std.specs.Prelude.{◌≡◌, Ok};
 ghost use Rattle.book.specs.Books.{state_of};
 ghost use Rattle.state.specs.Calls.{few_answer, data_answer, write_answer, fit_answer, fill_answer};
-ghost use Rattle.state.specs.States.{absent_count};
 
 use crate::books::Book;
 use faults::Fault;
-use recovery::{admit_area, admit_data, count_absent};
+use recovery::{admit_area, admit_data, few_absent};
 use state::{Filling, fills};
 use store::{ReadStore, WriteStore};
 
 impl<S: WriteStore> Book<S> {
-    // How many stations are absent.
-    fn count(&self) -> u8
-        ensures { result ≡ absent_count (state_of S.means self.now) }
-    {
-        count_absent(&self.standing())
-    }
-
     // Refused by 9 b if three or more stations are absent.
     pub(crate) fn few_absent(&self) -> Result<(), Fault>
         ensures { result ≡ few_answer (state_of S.means self.now) }
     {
-        let count = self.count();
-        if count > 2 {
-            return Err(Fault::TooManyAbsent(count));
-        }
-        Ok(())
+        few_absent(&self.standing())
     }
 
     // What read and write look at first: 3 b, 4 s and 5 b, in this order.

@@ -27,7 +27,8 @@ impl From<Marks> for u32 {
 impl Marks {
     // The empty set.
     pub fn none() -> Self
-        ensures { (s : ℕ) → marked result.bits s ≡ false }
+        ensures bits { result.bits ≡ 0 }
+        ensures unmarked { (s : ℕ) → marked result.bits s ≡ false }
     {
         Marks { bits: 0 }
     }

@@ -74,7 +74,7 @@ pub enum Fault {
 }
 
 impl Fault {
-    // What it says: its number, the layer in which it began, and its place.
+    // What it says: its number, the layer in which it began, and its place. A tuple, so that each fault is one line.
     fn slip(self) -> (u8, Layer, usize)
         ensures { result ≡ (number_of self, layer_of self, place_of self) }
     {

@@ -4,7 +4,7 @@
 --   5      the size n
 --   6 to 9 the marks, big_endian: the bit of weight 2^s is set where station s is out
 --   10 on  N blocks of 64 bytes
-use Rattle.std.specs.Prelude.{◌≡◌, ℕ, ◌+◌, ◌*◌, ◌/◌, ◌%◌, ◌^◌, ◌<◌, ◌≤◌, true, false, cond, ◌&&◌, ◌||◌, ◌≢◌, ◌⊎◌, List, [], ◌∷◌, length, take, Ok, Err, Result, ◌==◌, nat_le, nat_lt, slice_index, is_ok, ◌↔◌}
+use Rattle.std.specs.Prelude.{◌≡◌, ℕ, ◌+◌, ◌*◌, ◌/◌, ◌%◌, ◌^◌, ◌<◌, ◌≤◌, true, false, cond, ◌&&◌, ◌||◌, ◌≢◌, ◌⊎◌, List, [], ◌∷◌, length, take, Ok, Err, Result, ◌==◌, nat_lt, slice_index, is_ok, ◌↔◌}
 use Rattle.std.specs.Borrow.{Bor}
 use Rattle.code.specs.Marks.{marked, Marked}
 use Rattle.code.specs.Places.{pair_place}
@@ -12,8 +12,8 @@ use Rattle.code.specs.Sizes.{among, sizes, pairs}
 use Rattle.kinds.specs.Parts.{part, block_at}
 use Rattle.kinds.specs.declared.blocks.Block.{Block}
 use Rattle.faults.specs.declared.faults.Fault.{Fault}
-use Rattle.faults.specs.declared.faults.Fault.TheVariants.{NotASize, AreaTooShort, NoSuchStation, WrongLength, WrongVersion, StrayMarks}
-use Rattle.store.specs.Meaning.{Meaning, After, get_answer, take_out_answer, bring_in_answer}
+use Rattle.faults.specs.declared.faults.Fault.TheVariants.{NotASize, AreaTooShort, WrongLength, WrongVersion, StrayMarks}
+use Rattle.store.specs.Meaning.{Meaning, After, stations_first, get_answer, take_out_answer, bring_in_answer}
 
 -- four bytes from k on, big_endian
 abbrev pub big_endian : List ℕ → ℕ → ℕ
@@ -113,9 +113,7 @@ BringImage bs s r bs' = (r ≡ bring_in_answer (image_meaning bs) s) × After r 
 -- the 64 bytes of a pair of an image, or the first 64 of a second area: the area is looked at first, then the stations
 abbrev pub show_answer : ℕ → ℕ → ℕ → ℕ → Result (Unit {0}) Fault
 show_answer n len a b =
-    cond (nat_lt len 64) (Err (AreaTooShort len))
-    (cond (nat_le n a) (Err (NoSuchStation a))
-    (cond (nat_le n b) (Err (NoSuchStation b)) (Ok tt)))
+    cond (nat_lt len 64) (Err (AreaTooShort len)) (stations_first n a b (Ok tt))
 
 abbrev pub shown_bytes : List ℕ → List ℕ → ℕ → ℕ → List ℕ
 shown_bytes bs second a b =

@@ -5,9 +5,9 @@ use Rattle.code.specs.Marks.{marked}
 use Rattle.code.specs.Rebuilt.{absentees, Kept, Recovered}
 use Rattle.code.specs.Rules.{Blocks, of, Codeword, Agree}
 use Rattle.faults.specs.declared.faults.Fault.{Fault}
-use Rattle.faults.specs.declared.faults.Fault.TheVariants.{AreaTooShort, NoSuchStation, TooManyAbsent}
+use Rattle.faults.specs.declared.faults.Fault.TheVariants.{AreaTooShort, TooManyAbsent}
 use Rattle.code.specs.declared.places.Pair.{Pair}
-use Rattle.store.specs.Meaning.{Meaning, is_out_of}
+use Rattle.store.specs.Meaning.{Meaning, is_out_of, stations_first}
 
 -- the marks of the absent stations: none from n on
 abbrev pub AbsentMarks : {B : Type 0} → Meaning B → ℕ → Type 0
@@ -17,13 +17,20 @@ AbsentMarks m marks = (s : ℕ) → marked marks s ≡ is_out_of m s
 abbrev pub absent_in : {B : Type 0} → Meaning B → ℕ
 absent_in m = absentees m.out m.size
 
+-- refused where a work area has under 8 n blocks, and else as what is looked at next
+abbrev pub area_first : ℕ → ℕ → Result (Unit {0}) Fault → Result (Unit {0}) Fault
+area_first n len next = cond (nat_lt len (8 * n)) (Err (AreaTooShort len)) next
+
+-- refused where three or more stations are absent
+abbrev pub few_answer : {B : Type 0} → Meaning B → Result (Unit {0}) Fault
+few_answer m = cond (nat_lt 2 (absent_in m)) (Err (TooManyAbsent (absent_in m))) (Ok tt)
+
 -- may the pair of a and b be recovered, with a work area of this length?
 abbrev pub recover_answer : {B : Type 0} → Meaning B → ℕ → ℕ → ℕ → Result (Unit {0}) Fault
 recover_answer m len a b =
-    cond (nat_lt len (8 * m.size)) (Err (AreaTooShort len))
-    (cond (nat_le m.size a) (Err (NoSuchStation a))
-    (cond (nat_le m.size b) (Err (NoSuchStation b))
-    (cond ((m.out a || m.out b) && nat_lt 2 (absent_in m)) (Err (TooManyAbsent (absent_in m))) (Ok tt))))
+    area_first m.size len
+    (stations_first m.size a b
+    (cond ((m.out a || m.out b) && nat_lt 2 (absent_in m)) (Err (TooManyAbsent (absent_in m))) (Ok tt)))
 
 -- x is the block of the pair of a and b: as stored, or recovered from the others
 abbrev pub RecoveredFrom : {B : Type 0} → Group B → Meaning B → ℕ → ℕ → B → Type 0

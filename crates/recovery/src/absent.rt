@@ -1,8 +1,9 @@
 // The absent stations of a store: those that are out.
 ghost use Rattle.std.specs.Prelude.{◌≡◌, ◌≢◌, MatchOption};
-ghost use Rattle.recovery.specs.Recovery.{AbsentMarks, absent_in, Two};
+ghost use Rattle.recovery.specs.Recovery.{AbsentMarks, absent_in, few_answer, Two};
 
 use code::{Marks, Pair};
+use faults::Fault;
 use store::{ReadStore, next_out};
 
 // Their marks, and no other's.
@@ -24,6 +25,17 @@ pub fn count_absent<S: ReadStore>(store: &S) -> u8
     (0..store.size().number())
         .filter(|&s| store.is_out(s))
         .count() as u8
+}
+
+// Refused by 9 b if three or more stations are absent.
+pub fn few_absent<S: ReadStore>(store: &S) -> Result<(), Fault>
+    ensures { result ≡ few_answer (S.means store.now) }
+{
+    let count = count_absent(store);
+    if count > 2 {
+        return Err(Fault::TooManyAbsent(count));
+    }
+    Ok(())
 }
 
 // The two absent stations, if there are just two.

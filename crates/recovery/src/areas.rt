@@ -1,5 +1,6 @@
 // Work areas.
-ghost use Rattle.std.specs.Prelude.{◌≡◌, ◌*◌, cond, nat_lt};
+ghost use Rattle.std.specs.Prelude.{◌≡◌, ◌*◌, Ok};
+ghost use Rattle.recovery.specs.Recovery.{area_first};
 
 use code::Size;
 use faults::Fault;
@@ -13,7 +14,7 @@ pub fn work_length(size: Size) -> usize
 
 // Refused by 3 b under 8 n blocks.
 pub fn admit_area(size: Size, len: usize) -> Result<(), Fault>
-    ensures { result ≡ cond (nat_lt len (8 * size.number)) (Err (Fault.AreaTooShort len)) (Ok tt) }
+    ensures { result ≡ area_first size.number len (Ok tt) }
 {
     if len < work_length(size) {
         return Err(Fault::AreaTooShort(len));

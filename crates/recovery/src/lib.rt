@@ -11,7 +11,7 @@ mod rows;
 mod sums;
 mod walks;
 
-pub use absent::{absent_marks, count_absent};
+pub use absent::{absent_marks, count_absent, few_absent};
 pub use admits::admit_data;
 pub use areas::{admit_area, work_length};
 pub use patterns::{Impulse, pattern};

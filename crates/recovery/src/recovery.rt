@@ -4,7 +4,7 @@ ghost use Rattle.recovery.specs.Recovery.{recover_answer, RecoveredFrom};
 ghost use Rattle.store.specs.Meaning.{is_out_of};
 ghost use Rattle.store.specs.Standing.{beside};
 
-use crate::absent::{count_absent, two_absent};
+use crate::absent::{few_absent, two_absent};
 use crate::areas::admit_area;
 use crate::rebuilds::rebuild;
 use crate::rows::RowPair;
@@ -29,9 +29,8 @@ fn may_recover<S: ReadStore>(store: &S, len: usize, a: u8, b: u8) -> Result<(), 
     admit_area(size, len)?;
     size.admit(a)?;
     size.admit(b)?;
-    let count = count_absent(store);
-    if is_lost(store, a, b) && count > 2 {
-        return Err(Fault::TooManyAbsent(count));
+    if is_lost(store, a, b) {
+        few_absent(store)?;
     }
     Ok(())
 }

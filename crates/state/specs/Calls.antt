@@ -4,9 +4,9 @@ use Rattle.kinds.specs.Group.{Group}
 use Rattle.code.specs.Rules.{Blocks, of}
 use Rattle.code.specs.Sizes.{OddPrime}
 use Rattle.faults.specs.declared.faults.Fault.{Fault}
-use Rattle.faults.specs.declared.faults.Fault.TheVariants.{OutAtOpen, AreaTooShort, NoSuchStation, CheckPair, AlreadyAbsent, NotOut, FillingUnderWay, TooManyAbsent, TicketRefused}
-use Rattle.recovery.specs.Patterns.{Touched}
-use Rattle.recovery.specs.Recovery.{RecoveredFrom}
+use Rattle.faults.specs.declared.faults.Fault.TheVariants.{OutAtOpen, NoSuchStation, AlreadyAbsent, NotOut, FillingUnderWay, TooManyAbsent, TicketRefused}
+use Rattle.recovery.specs.Patterns.{Touched, data_pair_first}
+use Rattle.recovery.specs.Recovery.{RecoveredFrom, area_first, few_answer as few_absent_answer}
 use Rattle.store.specs.Meaning.{Meaning, Written, first}
 use Rattle.state.specs.Fillings.{next_of}
 use Rattle.state.specs.States.{State, size_of, being_filled, absent, absent_count, seen}
@@ -43,15 +43,12 @@ pub record Opened {B : Type 0} (G : Group B) (st st' : State B) : Type 0 where
 
 -- 9 b if three or more stations are absent
 abbrev pub few_answer : {B : Type 0} → State B → Result (Unit {0}) Fault
-few_answer st = cond (too_many st) (Err (TooManyAbsent (absent_count st))) (Ok tt)
+few_answer st = few_absent_answer (seen st)
 
 -- what read and write look at before the absent stations: the work area, the stations, and that the pair is a data pair
 abbrev pub data_answer : {B : Type 0} → State B → ℕ → ℕ → ℕ → Result (Unit {0}) Fault → Result (Unit {0}) Fault
 data_answer st len a b next =
-    cond (nat_lt len (8 * size_of st)) (Err (AreaTooShort len))
-    (cond (nat_le (size_of st) a) (Err (NoSuchStation a))
-    (cond (nat_le (size_of st) b) (Err (NoSuchStation b))
-    (cond (nat_le (size_of st) (max a b + 2)) (Err (CheckPair (max a b))) next)))
+    area_first (size_of st) len (data_pair_first (size_of st) a b next)
 
 -- a read is refused by 9 if one of three or more absent stations is in its pair
 abbrev pub read_answer : {B : Type 0} → State B → ℕ → ℕ → ℕ → Result (Unit {0}) Fault
@@ -92,7 +89,7 @@ fit_answer st s =
 -- may a ticket of station t be used to fill? 10 is looked at before 9
 abbrev pub fill_answer : {B : Type 0} → State B → ℕ → ℕ → Result (Unit {0}) Fault
 fill_answer st len t =
-    cond (nat_lt len (8 * size_of st)) (Err (AreaTooShort len))
+    area_first (size_of st) len
     (cond (being_filled st.filling t) (few_answer st) (Err (TicketRefused t)))
 
 -- may a ticket of station t be used to finish? Its station is the one being filled, and its next partner is n

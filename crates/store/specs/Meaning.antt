@@ -34,13 +34,16 @@ in_answer m s = mark_answer m.size m.out s
 abbrev pub is_out_of : {B : Type 0} → Meaning B → ℕ → Bool
 is_out_of m s = nat_lt s m.size && m.out s
 
+-- refused with the first of two numbers that is n or more, and else as what is looked at next
+abbrev pub stations_first : ℕ → ℕ → ℕ → Result (Unit {0}) Fault → Result (Unit {0}) Fault
+stations_first n a b next = cond (nat_le n a) (Err (NoSuchStation a)) (cond (nat_le n b) (Err (NoSuchStation b)) next)
+
 -- may the pair of a and b be got or put? The first number of n or more, then the smaller station that is out
 abbrev pub pair_answer : ℕ → (ℕ → Bool) → ℕ → ℕ → Result (Unit {0}) Fault
 pair_answer n out a b =
-    cond (nat_le n a) (Err (NoSuchStation a))
-    (cond (nat_le n b) (Err (NoSuchStation b))
+    stations_first n a b
     (cond (out (min a b)) (Err (StationOut (min a b)))
-    (cond (out (max a b)) (Err (StationOut (max a b))) (Ok tt))))
+    (cond (out (max a b)) (Err (StationOut (max a b))) (Ok tt)))
 
 abbrev pub get_answer : {B : Type 0} → Meaning B → ℕ → ℕ → Result (Unit {0}) Fault
 get_answer m a b = pair_answer m.size m.out a b

@@ -56,7 +56,7 @@ impl<'a, B: BlockKind> Table<'a, B> {
         let Ok(size) = Size::try_from(n) else {
             unreachable!();
         };
-        let out = Marks::from(0);
+        let out = Marks::none();
         Table {
             roll: Roll { size, out },
             row,
