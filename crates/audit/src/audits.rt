@@ -10,6 +10,7 @@ use kinds::BlockKind;
 use std::fmt;
 use store::{Beside, ReadStore, block_or_zero, next_out};
 
+// What an audit finds: that all is sound, or a rule. It is a word of reports and lines, which an optional rule would not be.
 #[derive(Clone, Copy, Debug, PartialEq, Eq)]
 pub enum Verdict {
     Sound,

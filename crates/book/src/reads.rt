@@ -13,8 +13,8 @@ use recovery::recover;
 use store::{ReadStore, WriteStore};
 
 impl<S: WriteStore> Book<S> {
-    // Recovers any pair into the caller's place, with the station being filled absent. Refused by 3 b, 4 s and 9 b; a
-    // refusal changes nothing.
+    // Recovers any pair into the caller's place, as `read` does, with the station being filled absent. Refused by 3 b, 4 s and
+    // 9 b; a refusal changes nothing.
     pub(crate) fn recover(
         &self,
         a: u8,

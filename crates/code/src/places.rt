@@ -9,7 +9,7 @@ pub struct Pair {
     pub smaller: u8,
 }
 
-// The pair at each place.
+// The pair at each place. A table that is written out, by a rule of the project.
 static PAIRS: [Pair; 496] = [
     Pair {
         larger: 0,

@@ -46,7 +46,7 @@ pub struct Image<'a> {
 }
 
 impl<'a> Image<'a> {
-    // Of bytes that `check_image` passed.
+    // Of bytes that `check_image` passed: in two steps, by a rule of the project.
     pub fn make(bytes: &'a mut [u8]) -> Self
         requires { is_ok (image_check bytes.old) ≡ true }
         ensures bytes { result.bytes.now ≡ bytes.old }
@@ -90,7 +90,8 @@ impl ReadStore for Image<'_> {
     }
 }
 
-// What is answered stands in the clause on the bytes, from which the interface's clause on the answer follows.
+// What is answered stands in the clause on the bytes, from which the interface's clause on the answer follows. Take out and
+// bring in are two, as in the interface: their refusals differ, and only one fills blocks.
 impl WriteStore for Image<'_> {
     fn put(&mut self, a: u8, b: u8, x: Block) -> Result<(), Fault>
         ensures after { AfterPut (image_meaning self.old.bytes.now) a b x result (image_meaning self.new.bytes.now) }

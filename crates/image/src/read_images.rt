@@ -19,7 +19,7 @@ pub struct ReadImage<'a> {
 }
 
 impl<'a> ReadImage<'a> {
-    // Of bytes that `check_image` passed.
+    // Of bytes that `check_image` passed: in two steps, by a rule of the project.
     pub fn make(bytes: &'a [u8]) -> Self
         requires { is_ok (image_check bytes.now) ≡ true }
         ensures bytes { result.bytes.now ≡ bytes.now }

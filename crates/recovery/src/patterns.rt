@@ -14,7 +14,8 @@ use faults::Fault;
 use kinds::BlockKind;
 use store::ReadStore;
 
-// A store with one block, at the pair of two stations. Every other pair is zero, and both check stations are out.
+// A store with one block, at the pair of two stations, in the caller's order. Every other pair is zero, and both check
+// stations are out.
 #[derive(Clone, Copy)]
 pub struct Impulse<B> {
     size: Size,
@@ -63,7 +64,7 @@ impl<B: BlockKind> ReadStore for Impulse<B> {
     }
 }
 
-// The checks before a pattern.
+// The checks before a pattern. The stations are two numbers, here and below, since a refusal names the first that is none.
 fn may_lay(size: Size, work: usize, into: usize, a: u8, b: u8) -> Result<(), Fault>
     ensures { result ≡ pattern_answer size.number work into a b }
 {

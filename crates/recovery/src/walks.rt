@@ -8,7 +8,8 @@ ghost use Rattle.recovery.specs.Work.{station, block_at, gathered, all_gathered,
 use code::{Pair, Size};
 use kinds::BlockKind;
 
-// Two of n stations, i before j, and the walk i, j, j + (j - i), .. round them all.
+// Two of n stations, i before j, and the walk i, j, j + (j - i), .. round them all: as plain numbers, of which places are
+// computed at every step.
 #[derive(Clone, Copy)]
 pub(crate) struct Walk {
     n: usize,

@@ -158,7 +158,8 @@ fn try_call<S: WriteStore>(
     }
 }
 
-// What a call is answered, whether it is refused or not. `unwrap_or_else` was tried here, and the check does not cover it.
+// What a call is answered, whether it is refused or not. `unwrap_or_else` was tried: the check does not cover a call that is
+// passed a case of an enum over a type parameter.
 fn make_call<S: WriteStore>(
     book: &mut Book<S>,
     call: Call<S::Block>,

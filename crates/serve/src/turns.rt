@@ -32,7 +32,8 @@ pub enum Answer<B> {
     Untouched,
 }
 
-// A call and its answer. An answer stands there only when the call was made: what stands there before is not looked at.
+// A call and its answer. An answer stands there only when the call was made: what stands there before is not looked at, and an
+// `Option` of it would be unwrapped by every reader of a list that was served.
 #[derive(Clone, Copy, Debug, PartialEq, Eq)]
 pub struct Turn<B> {
     pub call: Call<B>,

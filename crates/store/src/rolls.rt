@@ -36,7 +36,7 @@ impl Roll {
     }
 
     // Get and put: refused by 4 s, with the first number that is too large, and by 11 s, with the smaller station that is out.
-    // `ReadStore::admit_pair` of a store with a roll, which is read once.
+    // `ReadStore::admit_pair` of a store with a roll: an image so reads its header once, and not four times.
     pub fn admit_pair(self, a: u8, b: u8) -> Result<(), Fault>
         ensures answer { result ≡ pair_answer self.size.number (marked self.out.bits) a b }
         ensures place { IfOk result (λ _. pair_place a b < pair_count self.size.number) }
@@ -67,7 +67,7 @@ impl Roll {
         Ok(())
     }
 
-    // Makes station s out, if that is admitted.
+    // Makes station s out, if that is admitted. With `bring_in` it is two calls, as in `WriteStore`: their refusals differ.
     pub fn take_out(&mut self, s: u8) -> Result<(), Fault>
         ensures answer { result ≡ out_answer self.old.size.number (marked self.old.out.bits) s }
         ensures after { After result (Turned self.old s true self.new) (self.new ≡ self.old) }

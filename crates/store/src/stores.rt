@@ -44,7 +44,8 @@ pub trait ReadStore {
         Ok(())
     }
 
-    // Lays the pair's block in the caller's place. Refused by 4 s and 11 s, and then the place is as it was.
+    // Lays the pair's block in the caller's place, by a rule of the project, and answers none. Refused by 4 s and 11 s, and then
+    // the place is as it was.
     fn get(&self, a: u8, b: u8, into: &mut Self::Block) -> Result<(), Fault>
         ensures answer { result ≡ get_answer (means self.now) a b }
         ensures into { into.new ≡ (if is_ok result then of (means self.now).block a b else into.old) };

@@ -21,7 +21,7 @@ pub fn check_table<B>(n: u8, row: &[B]) -> Result<(), Fault>
     Ok(())
 }
 
-// The table's methods hand its row on to these.
+// The table's methods hand its row on to these, as a rule of the project asks.
 fn read_at<B: Copy>(row: &[B], at: usize) -> B
     requires { at < length row.now }
     ensures { (d : B) → result ≡ slice_index_or row.now at d }
@@ -45,7 +45,7 @@ pub struct Table<'a, B> {
 }
 
 impl<'a, B: BlockKind> Table<'a, B> {
-    // Of a number and a row that `check_table` passed.
+    // Of a number and a row that `check_table` passed: in two steps, by a rule of the project.
     pub fn make(n: u8, row: &'a mut [B]) -> Self
         requires { is_ok (table_check n (length row.old)) ≡ true }
         ensures size { result.roll.size.number ≡ n }

@@ -1,6 +1,6 @@
 // The text of a report.
 use crate::samples::{five, flip, set, three};
-use report::inspect;
+use report::{hex_text, inspect};
 use std::process::Abort;
 use std::test::Fail;
 
@@ -59,6 +59,22 @@ fn refused(rt: HostRuntime) -> Result<(), Fail> {
         let mut bytes = five(heap, 0)?;
         set(bytes.as_mut_slice(), at, value)?;
         inspects(&rt, bytes.as_slice(), text)?;
+    }
+    Ok(())
+}
+
+// Bytes of any length as digits.
+#[test]
+fn digits_of_bytes(rt: HostRuntime) -> Result<(), Fail> {
+    let heap = rt.alloc();
+    let cases = [
+        ("", ""),
+        ("\x00", "00"),
+        ("\x1f", "1f"),
+        ("az\x09", "617a09"),
+    ];
+    for (bytes, text) in cases {
+        assert_eq!(rt; hex_text(heap, bytes.as_bytes())?.as_str(), text);
     }
     Ok(())
 }

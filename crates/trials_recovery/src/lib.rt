@@ -5,6 +5,8 @@
 #[cfg(test)]
 mod areas;
 #[cfg(test)]
+mod beside_trials;
+#[cfg(test)]
 mod lawful;
 #[cfg(test)]
 mod loss_trials;
