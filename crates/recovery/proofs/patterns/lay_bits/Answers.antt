@@ -9,6 +9,7 @@ use Rattle.recovery.specs.Recovery.{row_bit}
 use Rattle.recovery.proofs.Laid.{lay_bit}
 use Rattle.recovery.proofs.patterns.lay_bits.Goals as goal
 use Rattle.recovery.proofs.patterns.lay_bits.Goals.{in-Some, in_default}
+
 pub loop-p-preserved : goal.loop-p-preserved
 loop-p-preserved c x y lx ly h =
     let n = c.args.rows.now.size.number in

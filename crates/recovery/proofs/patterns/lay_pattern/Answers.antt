@@ -7,6 +7,7 @@ use Rattle.recovery.specs.Patterns.{impulse, Pattern}
 use Rattle.recovery.specs.Recovery.{Rows}
 use Rattle.recovery.proofs.Impulses.{pattern_laid}
 use Rattle.recovery.proofs.patterns.lay_pattern.Goals as goal
+
 pub returns : goal.returns
 returns c =
     let n = c.number-n.result in

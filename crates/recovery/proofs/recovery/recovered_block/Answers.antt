@@ -4,6 +4,7 @@ use Rattle.code.specs.Rules.{diagonal}
 use Rattle.store.specs.Standing.{standing}
 use Rattle.recovery.proofs.Picked.{one_recovered, two_recovered}
 use Rattle.recovery.proofs.recovery.recovered_block.Goals as goal
+
 pub returns-in-Some : goal.returns-in-Some
 returns-in-Some g c =
     let m = g.S.ReadStore.means c.args.store.now in

@@ -4,6 +4,7 @@ use Rattle.code.specs.Rules.{diagonal}
 use Rattle.code.proofs.Diagonals.{share, diagonal_shares}
 use Rattle.store.specs.Standing.{standing}
 use Rattle.recovery.proofs.sums.diagonal_sum.Goals as goal
+
 pub returns : goal.returns
 returns g c =
     let G = g.S.Block.BlockKind.group in

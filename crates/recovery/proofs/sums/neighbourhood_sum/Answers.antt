@@ -2,6 +2,7 @@ use Rattle.std.proofs.Common.{◌≡◌, ap, ◌∙◌, arith}
 use Rattle.code.specs.Rules.{neighbourhood}
 use Rattle.store.specs.Standing.{standing}
 use Rattle.recovery.proofs.sums.neighbourhood_sum.Goals as goal
+
 pub returns : goal.returns
 returns g c =
     let G = g.S.Block.BlockKind.group in
