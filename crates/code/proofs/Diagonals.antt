@@ -1,25 +1,13 @@
 -- A diagonal as one sum over stations: each station has one partner on it.
-use Rattle.std.proofs.Common.{◌≡◌, ℕ, ◌+◌, ◌-◌, ◌%◌, ◌<◌, ◌≤◌, cond, eqb, leb, ◌≢◌, ◌⊎◌, sym, ap, ◌∙◌, inl, inr, mod-lt, mod-eq_of_lt, arith}
-use native.Mathlib.Nat.{add-mod-mod, add-mod_right}
+use Rattle.std.proofs.Common.{◌≡◌, ℕ, ◌+◌, ◌%◌, ◌<◌, ◌≤◌, cond, eqb, leb, ◌≢◌, ◌⊎◌, sym, ◌∙◌, inl, inr, arith}
 use Rattle.std.proofs.lemmas.Bool.{cases_lt, le-leb, lt-leb, cond-true, cond-false}
 use Rattle.kinds.specs.Group.{Group, sum_to}
 use Rattle.code.specs.Rules.{Blocks, diagonal}
 use Rattle.code.proofs.Sums.{cond_eq, cond_ne, sum_cong, sum_none, sum_point}
+use Rattle.code.proofs.Walk.{mate, mate_below, mate_meets}
 use Rattle.code.proofs.Rows.{partner}
 
--- the station that is on diagonal m with a
-abbrev pub mate : ℕ → ℕ → ℕ → ℕ
-mate n m a = (m + (n - a)) % n
-
-pub mate_below : (n m a : ℕ) → 0 < n → mate n m a < n
-mate_below n m a l = mod-lt (m + (n - a)) l
-
-pub mate_meets : (n m a : ℕ) → m < n → a < n → (a + mate n m a) % n ≡ m
-mate_meets n m a lm la =
-    let e : a + (m + (n - a)) ≡ m + n = omega arith in
-    add-mod-mod a (m + (n - a)) n ∙ ap (λ x. x % n) e ∙ add-mod_right m n ∙ mod-eq_of_lt lm
-
--- and no other
+-- no other station is on diagonal m with a
 pub mate_only : (n m a b : ℕ) → m < n → a < n → b < n → (a + b) % n ≡ m → b ≡ mate n m a
 mate_only n m a b lm la lb e = partner n a b (mate n m a) lb (mate_below n m a (omega arith)) (e ∙ sym (mate_meets n m a lm la))
 

@@ -1,6 +1,8 @@
 -- The worked examples, by computed tests.
 use Rattle.std.proofs.Common.{◌≡◌, ℕ, suc, ◌+◌, ◌-◌, ◌%◌, ◌<◌, ◌≤◌, min, max, Bool, true, false, not, ◌&&◌, ◌||◌, eqb, leb, List, [], ◌∷◌, sym, refl, ◌∙◌, arith, lit≤}
 use mathlib.Core.Bool.{beq}
+use Rattle.std.specs.Cmp.{booleans_Decides}
+use Rattle.std.proofs.Math.Bool.{or-false}
 use Rattle.std.proofs.lemmas.Bool.{and_parts, not-true, both_ways, le-leb}
 use Rattle.kinds.specs.Bits.{bit_group}
 use Rattle.code.specs.Examples.{listed_pair, DiagonalIs, PatternIs, Examples}
@@ -9,13 +11,6 @@ use Rattle.code.specs.Sizes.{OddPrime, among, sizes}
 use Rattle.code.proofs.Primes.{each_below, below_at, listed_prime, prime_listed}
 use Rattle.code.proofs.Rebuild.{stands}
 use Rattle.code.proofs.Rows.{of_le}
-
--- tests that agree
-same : (x y : Bool) → beq x y ≡ true → x ≡ y
-same true true e = refl
-same true false e = sym e
-same false true e = e
-same false false e = refl
 
 -- a test of each ordered pair of stations below n
 abbrev each_pair : (ℕ → ℕ → Bool) → ℕ → Bool
@@ -26,7 +21,7 @@ pair_at f n t a b la lb = below_at (f a) (suc a) (below_at (λ a. each_below (f 
 
 -- a diagonal
 diagonal_by : (n m : ℕ) (xs : List (ℕ × ℕ)) → each_pair (λ a b. beq (eqb ((a + b) % n) m) (listed_pair xs a b)) n ≡ true → DiagonalIs n m xs
-diagonal_by n m xs t a b la lb = same (eqb ((a + b) % n) m) (listed_pair xs a b) (pair_at (λ a b. beq (eqb ((a + b) % n) m) (listed_pair xs a b)) n t a b la lb)
+diagonal_by n m xs t a b la lb = (booleans_Decides (eqb ((a + b) % n) m) (listed_pair xs a b)).0 (pair_at (λ a b. beq (eqb ((a + b) % n) m) (listed_pair xs a b)) n t a b la lb)
 
 -- the listed pairs and the pair itself are a codeword, and the pair is the only data pair among them
 abbrev tested : ℕ → ℕ → ℕ → List (ℕ × ℕ) → Bool
@@ -46,7 +41,7 @@ pattern_by n a b xs odd l t word code unit x y lx ly check =
       neighbourhoods = λ h lh. not-true (neighbourhood bit_group n w h) (below_at (λ h. not (neighbourhood bit_group n w h)) n r.0 h lh);
       diagonals = λ m lm. not-true (diagonal bit_group n w m) (below_at (λ m. not (diagonal bit_group n w m)) n r.1 m lm);
     } in
-    let d : (x y : ℕ) → x < n - 2 → y ≤ x → w x y ≡ (eqb x a && eqb y b) = (λ x y lx ly. same (w x y) (eqb x a && eqb y b) (pair_at (λ x y. beq (w x y) (eqb x a && eqb y b)) (n - 2) q.1 x y lx ly)) in
+    let d : (x y : ℕ) → x < n - 2 → y ≤ x → w x y ≡ (eqb x a && eqb y b) = (λ x y lx ly. (booleans_Decides (w x y) (eqb x a && eqb y b)).0 (pair_at (λ x y. beq (w x y) (eqb x a && eqb y b)) (n - 2) q.1 x y lx ly)) in
     sym (of_le word x y ly)
     ∙ ((stands bit_group).free n odd l).only word w code c
     (λ u v lu lv _. unit (max u v) (min u v) (omega arith) (omega arith) ∙ sym (d (max u v) (min u v) (omega arith) (omega arith))) x y lx (omega arith) tt
@@ -54,11 +49,7 @@ pattern_by n a b xs odd l t word code unit x y lx ly check =
     ∙ last (w x y) (listed_pair xs x y) (leb n (x + 2)) (pair_at (λ x y. leb n (x + 2) && beq (w x y) (listed_pair xs x y) || not (leb n (x + 2))) n p.1 x y lx ly) (le-leb n (x + 2) check)
   where
     last : (u v c : Bool) → (c && beq u v || not c) ≡ true → c ≡ true → u ≡ v
-    last u v true h e = same u v (or_false (beq u v) h)
-      where
-        or_false : (z : Bool) → (z || false) ≡ true → z ≡ true
-        or_false true h = refl
-        or_false false h = h
+    last u v true h e = (booleans_Decides u v).0 (sym (or-false (beq u v)) ∙ h)
     last u v false h e = absurd (both_ways false refl e)
 
 -- a number that is not listed is no size

@@ -11,6 +11,10 @@ use Rattle.code.proofs.Rest.{rest_stands}
 use Rattle.code.proofs.Rows.{wipe, of_le, of_swap, diagonal_cong, diagonal_wipe}
 use Rattle.code.proofs.Sums.{equal}
 
+-- a pair with an absent station does not stand
+pub not_kept : (absent : ℕ → Bool) (a b : ℕ) → (absent a || absent b) ≡ true → Kept absent a b → ⊥
+not_kept absent a b e k = both_ways (absent a || absent b) (or_from (absent a) (absent b) k.0 k.1) e
+
 module _ {B : Type 0} (G : Group B) (n : ℕ) (prime : OddPrime n) (absent : ℕ → Bool) (f g : Blocks B)
     (code : Codeword G n g) (agree : Agree n (Kept absent) f g) where
   open G use {none}
@@ -43,13 +47,10 @@ module _ {B : Type 0} (G : Group B) (n : ℕ) (prime : OddPrime n) (absent : ℕ
     pub settled_kept : Kept absent a b → r ≡ of g a b
     settled_kept k = h.stored k ∙ agree a b la lb k
 
-    not_kept : (absent a || absent b) ≡ true → Kept absent a b → ⊥
-    not_kept e k = both_ways (absent a || absent b) (or_from (absent a) (absent b) k.0 k.1) e
-
     settled_one : (absent a || absent b) ≡ true → absentees absent n ≡ 1 → r ≡ of g a b
     settled_one e c =
         let o : (s : ℕ) × (s < n) × (absent s ≡ true) × ((k : ℕ) → k < n → k ≢ s → absent k ≡ false) = one_absent absent n c in
-        h.one (not_kept e) c ∙ sym (rest_stands G n absent f a b la lb e c) ∙ go o.0 o.1 o.2 o.3 (cases_eq a o.0) (cases_eq b o.0)
+        h.one (not_kept absent a b e) c ∙ sym (rest_stands G n absent f a b la lb e c) ∙ go o.0 o.1 o.2 o.3 (cases_eq a o.0) (cases_eq b o.0)
       where
         go : (s : ℕ) → s < n → absent s ≡ true → ((k : ℕ) → k < n → k ≢ s → absent k ≡ false) → (a ≡ s) ⊎ (a ≢ s) → (b ≡ s) ⊎ (b ≢ s)
             → diagonal G n (λ x y. cond (absent x || absent y) none (f x y)) ((a + b) % n) ≡ of g a b
@@ -57,15 +58,15 @@ module _ {B : Type 0} (G : Group B) (n : ℕ) (prime : OddPrime n) (absent : ℕ
             ap (λ x. diagonal G n (λ x y. cond (absent x || absent y) none (f x y)) ((x + b) % n)) p ∙ one_settled s ls lost others b lb ∙ ap (λ x. of g x b) (sym p)
         go s ls lost others (inr d) (inl p) =
             ap (λ x. diagonal G n (λ x y. cond (absent x || absent y) none (f x y)) (x % n)) (add_comm a b ∙ ap (λ x. x + a) p) ∙ one_settled s ls lost others a la ∙ of_swap g s a ∙ ap (of g a) (sym p)
-        go s ls lost others (inr d) (inr d') = absurd (not_kept e (others a la d, others b lb d'))
+        go s ls lost others (inr d) (inr d') = absurd (not_kept absent a b e (others a la d, others b lb d'))
 
     settled_two : (absent a || absent b) ≡ true → absentees absent n ≡ 2 → r ≡ of g a b
     settled_two e c =
-        let t = h.two (not_kept e) c in
+        let t = h.two (not_kept absent a b e) c in
         t.1.2 ∙ ((stands G).size n prime).only absent t.0 g c t.1.0 code (λ x y lx ly k. t.1.1 x y lx ly k ∙ agree x y lx ly k) a b la lb tt
 
     some_absent : (absent a || absent b) ≡ true → absentees absent n ≢ 0
-    some_absent e c = not_kept e (none_absent absent n c a la, none_absent absent n c b lb)
+    some_absent e c = not_kept absent a b e (none_absent absent n c a la, none_absent absent n c b lb)
 
     -- of up to two absent stations, and of any number where the pair stands
     pub settled_few : absentees absent n ≤ 2 → r ≡ of g a b

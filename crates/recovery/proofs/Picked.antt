@@ -1,13 +1,13 @@
 -- A pair's block from the rest of its diagonal, or from rebuilt rows, is recovered.
 use Rattle.std.proofs.Common.{◌≡◌, ℕ, ◌+◌, ◌%◌, ◌<◌, Bool, true, ◌||◌, ◌≢◌, ◌⊎◌, List, sym, ap, ◌∙◌, inl, inr, arith}
-use Rattle.std.proofs.lemmas.Bool.{cases_eq, both_ways, or_from}
+use Rattle.std.proofs.lemmas.Bool.{cases_eq}
 use Rattle.std.proofs.lemmas.Bool.Decides.{nat_tests}
 use Rattle.kinds.specs.Group.{Group}
-use Rattle.code.specs.Rebuilt.{Kept}
 use Rattle.code.specs.Rules.{Blocks, of, diagonal}
 use Rattle.code.specs.declared.places.Pair.{Pair}
 use Rattle.code.proofs.Rest.{rest_stands}
 use Rattle.code.proofs.Rows.{of_swap}
+use Rattle.code.proofs.Settled.{not_kept}
 use Rattle.store.specs.Meaning.{Meaning}
 use Rattle.store.specs.Standing.{standing}
 use Rattle.recovery.specs.Recovery.{absent_in, RecoveredFrom, Two, Rows, row_block}
@@ -24,13 +24,10 @@ module _ {B : Type 0} (G : Group B) (m : Meaning B) (a b : ℕ) (la : a < m.size
 
   -- a station of the pair is absent
   module _ (lost : (absent a || absent b) ≡ true) where
-    not_kept : Kept absent a b → ⊥
-    not_kept k = both_ways (absent a || absent b) (or_from (absent a) (absent b) k.0 k.1) lost
-
     pub one_recovered : absent_in m ≢ 2 → r ≡ diagonal G n (standing G m) ((a + b) % n) → RecoveredFrom G m a b r
     one_recovered d e =
         record {
-          stored = λ k. absurd (not_kept k);
+          stored = λ k. absurd (not_kept absent a b lost k);
           one = λ _ c. e ∙ rest_stands G n absent f a b la lb lost c;
           two = λ _ c. absurd (d c);
         }
@@ -45,12 +42,12 @@ module _ {B : Type 0} (G : Group B) (m : Meaning B) (a b : ℕ) (la : a < m.size
           go (inr d) (inl e) _ _ = grind (arith, nat_tests) ∙ rows.larger b lb ∙ ap (λ s. of rows.word s b) (sym e)
           go (inr d) (inr d') (inl e) _ = grind (arith, nat_tests) ∙ rows.smaller a la ∙ of_swap rows.word x.smaller a ∙ ap (of rows.word a) (sym e)
           go (inr d) (inr d') (inr d'') (inl e) = grind (arith, nat_tests) ∙ rows.larger a la ∙ of_swap rows.word x.larger a ∙ ap (of rows.word a) (sym e)
-          go (inr d) (inr d') (inr e) (inr e') = absurd (not_kept (two.others a la d d', two.others b lb e e'))
+          go (inr d) (inr d') (inr e) (inr e') = absurd (not_kept absent a b lost (two.others a la d d', two.others b lb e e'))
 
       pub two_recovered : absent_in m ≡ 2 → r ≡ row_block G.none x first second a b → RecoveredFrom G m a b r
       two_recovered c e =
           record {
-            stored = λ k. absurd (not_kept k);
+            stored = λ k. absurd (not_kept absent a b lost k);
             one = λ _ d. absurd (omega arith);
             two = λ _ _. (rows.word, (rows.code, rows.agrees, e ∙ in_row));
           }

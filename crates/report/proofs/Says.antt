@@ -1,5 +1,6 @@
 -- What a line says of its block, from what recovery answers.
-use Rattle.std.proofs.Common.{◌≡◌, ℕ, ◌*◌, ◌<◌, Bool, true, false, ◌||◌, List, ◌++◌, Ok, codes, Result, sym, refl, ap, ◌∙◌, subst, arith}
+use Rattle.std.proofs.Common.{◌≡◌, ℕ, ◌*◌, ◌<◌, Bool, true, false, ◌||◌, List, ◌++◌, Ok, codes, Result, sym, ap, ◌∙◌, subst}
+use Rattle.std.proofs.lemmas.Bool.{or_parts}
 use Rattle.kinds.specs.Bytes.{byte_group}
 use Rattle.kinds.specs.Texts.{hex_text}
 use Rattle.kinds.specs.declared.blocks.Block.{Block}
@@ -15,10 +16,6 @@ text_rebuilt m a b o {r} x {t} p q w h =
     let Q : Bool → Type 0 = λ u. BlockText m a b u r t in
     subst Q (sym q) (subst P (sym p) (x, (w, h)))
 
-or_false : (x y : Bool) → (x || y) ≡ false → (x ≡ false) × (y ≡ false)
-or_false true y e = let z : ◌≡◌ {A = ℕ} 0 1 = cc in absurd (omega arith)
-or_false false y e = (refl, e)
-
 module _ (m : Meaning Block) (a b : ℕ) (below_a : a < m.size) (below_b : b < m.size) {len : ℕ} (long : len ≡ 8 * m.size) where
   -- with a work area of that length
   answer_long : {r : Result (Unit {0}) Fault} → r ≡ recover_answer m len a b → recover_answer m (8 * m.size) a b ≡ r
@@ -32,4 +29,4 @@ module _ (m : Meaning Block) (a b : ℕ) (below_a : a < m.size) (below_b : b < m
       RecoveredFrom byte_group m a b x → t ≡ codes "stored " ++ hex_text x.bytes → BlockSaid m a b t
   said_stored x {t} q w h =
       let Q : Bool → Type 0 = λ u. BlockText m a b u (recover_answer m (8 * m.size) a b) t in
-      subst Q (sym q) (h ∙ ap (λ y. codes "stored " ++ hex_text y.bytes) (w.stored (or_false (m.out a) (m.out b) q)))
+      subst Q (sym q) (h ∙ ap (λ y. codes "stored " ++ hex_text y.bytes) (w.stored (or_parts (m.out a) (m.out b) q)))

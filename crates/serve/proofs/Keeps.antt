@@ -1,19 +1,21 @@
 -- Each accepted call keeps a book matched with the tally.
-use Rattle.std.proofs.Common.{◌≡◌, ℕ, ◌+◌, ◌<◌, min, max, Bool, true, false, cond, ◌||◌, eqb, ltb, ◌≢◌, ◌⊎◌, Some, None, Option, sym, refl, ap, ◌∙◌, subst, ap₂, inl, inr, arith}
-use Rattle.std.proofs.lemmas.Bool.{cases_eq, cases_Bool, cases_lt, both_ways, eq-eqb, ne_eqb, or_parts, or_from, ltb-false, lt-ltb, le-ltb}
+use Rattle.std.proofs.Common.{◌≡◌, ℕ, ◌+◌, ◌<◌, min, max, Bool, true, false, cond, ◌||◌, eqb, ◌≢◌, ◌⊎◌, Some, None, Option, sym, refl, ap, ◌∙◌, subst, ap₂, inl, inr, arith}
+use Rattle.std.proofs.Math.Bool.{or-true}
+use Rattle.std.proofs.lemmas.Bool.{cases_eq, cases_lt, both_ways, eq-eqb, ne_eqb, or_parts, or_from, ltb-false, lt-ltb, le-ltb}
 use Rattle.kinds.specs.Group.{Group}
 use Rattle.code.specs.Rules.{of, Codeword}
 use Rattle.code.specs.Sizes.{OddPrime}
 use Rattle.code.proofs.Rebuild.{zeros}
 use Rattle.code.proofs.Rows.{of_swap}
 use Rattle.code.proofs.Settled.{settled}
-use Rattle.store.specs.Meaning.{Meaning, Written, Remarked}
+use Rattle.store.specs.Meaning.{Meaning, Remarked}
 use Rattle.state.specs.Calls.{too_many, Opened, Filled, FilledNext}
 use Rattle.state.specs.Fillings.{stepped}
+use Rattle.state.proofs.Fillings.{Framed, framed, without}
 use Rattle.serve.specs.Matches.{Matches, FilledPairs}
 use Rattle.state.specs.States.{State, state, size_of, absent, absent_count, being_filled, filling_at, Sound, SoundAt}
 use Rattle.code.specs.Marks.{turned}
-use Rattle.serve.specs.Tally.{Tally, at_start}
+use Rattle.serve.specs.Tally.{Tally, at_start, lost, with_filling, restored}
 use Rattle.state.specs.declared.records.Filling.{Filling}
 
 module _ {B : Type 0} (G : Group B) (t : Tally B) (st : State B) (M : Matches G t st) where
@@ -41,9 +43,9 @@ out_absent m f s e = or_parts (m.out s) (being_filled f s) e
 module _ {B : Type 0} (G : Group B) (t : Tally B) (m m' : Meaning B) (s : ℕ) where
   -- s was lost
   pub keep_lose : (f : Option Filling) → Matches G t (state m f) → absent (state m f) s ≡ false → Remarked m s true m'
-      → Matches G (record { absent = turned t.absent s true; filling = t.filling; last = t.last }) (state m' f)
+      → Matches G (lost t s) (state m' f)
   keep_lose f M here r =
-      rematch G t (state m f) M (record { absent = turned t.absent s true; filling = t.filling; last = t.last }) (state m' f) r.size refl gone M.filling (sound f M.sound here) standing (filled f M.sound here M.filled)
+      rematch G t (state m f) M (lost t s) (state m' f) r.size refl gone M.filling (sound f M.sound here) standing (filled f M.sound here M.filled)
     where
       now_out : (k : ℕ) → k < m.size → m'.out k ≡ cond (eqb k s) true (m.out k)
       now_out k l = r.out k l
@@ -84,9 +86,9 @@ module _ {B : Type 0} (G : Group B) (t : Tally B) (m m' : Meaning B) (s : ℕ) w
 
   -- s was fitted
   pub keep_fit : Matches G t (state m None) → s < m.size → m.out s ≡ true → Remarked m s false m'
-      → Matches G (record { absent = t.absent; filling = filling_at s 0; last = t.last }) (state m' (filling_at s 0))
+      → Matches G (with_filling t (filling_at s 0)) (state m' (filling_at s 0))
   keep_fit M ls o r =
-      rematch G t (state m None) M (record { absent = t.absent; filling = filling_at s 0; last = t.last }) (state m' (filling_at s 0)) r.size refl (λ k l. M.gone k l ∙ same k l) refl
+      rematch G t (state m None) M (with_filling t (filling_at s 0)) (state m' (filling_at s 0)) r.size refl (λ k l. M.gone k l ∙ same k l) refl
       (omega (arith, r.size), r.out s ls ∙ ap (λ b. cond b false (m.out s)) (eq-eqb s s refl), omega arith) standing (λ q l. absurd (omega arith))
     where
       same : (k : ℕ) → k < m.size → absent (state m None) k ≡ absent (state m' (filling_at s 0)) k
@@ -101,19 +103,15 @@ module _ {B : Type 0} (G : Group B) (t : Tally B) (m m' : Meaning B) (s : ℕ) w
           ∙ M.standing p q lp lq (same p lp ∙ hp, same q lq ∙ hq)
 
   -- the filling of s was abandoned
-  pub keep_abandon : (k : ℕ) → Matches G t (state m (filling_at s k)) → Remarked m s true m' → Matches G (record { absent = t.absent; filling = None; last = t.last }) (state m' None)
+  pub keep_abandon : (k : ℕ) → Matches G t (state m (filling_at s k)) → Remarked m s true m' → Matches G (with_filling t None) (state m' None)
   keep_abandon k M r =
-      rematch G t (state m (filling_at s k)) M (record { absent = t.absent; filling = None; last = t.last }) (state m' None) r.size refl (λ j l. M.gone j l ∙ same j l) refl tt standing tt
+      rematch G t (state m (filling_at s k)) M (with_filling t None) (state m' None) r.size refl (λ j l. M.gone j l ∙ same j l) refl tt standing tt
     where
       same : (j : ℕ) → j < m.size → absent (state m (filling_at s k)) j ≡ absent (state m' None) j
       same j l = elim (cases_eq j s) [
-        | inl e ↦ let p : eqb j s ≡ true = eq-eqb j s e in rw (r.out j l, p) (or_true (m.out j))
+        | inl e ↦ let p : eqb j s ≡ true = eq-eqb j s e in rw (r.out j l, p) (or-true (m.out j))
         | inr d ↦ let p : eqb j s ≡ false = ne_eqb j s d in rw (r.out j l, p)
       ]
-        where
-          or_true : (b : Bool) → (b || true) ≡ true
-          or_true true = refl
-          or_true false = refl
 
       standing : (p q : ℕ) → p < m.size → q < m.size → absent (state m' None) p ≡ false → absent (state m' None) q ≡ false → of m'.block p q ≡ of M.word p q
       standing p q lp lq hp hq =
@@ -124,9 +122,9 @@ module _ {B : Type 0} (G : Group B) (t : Tally B) (m m' : Meaning B) (s : ℕ) w
 
 module _ {B : Type 0} (G : Group B) (t : Tally B) (m : Meaning B) (s : ℕ) where
   -- the station s, filled with all partners, stands
-  pub keep_finish : Matches G t (state m (filling_at s m.size)) → Matches G (record { absent = turned t.absent s false; filling = None; last = t.last }) (state m None)
+  pub keep_finish : Matches G t (state m (filling_at s m.size)) → Matches G (restored t s) (state m None)
   keep_finish M =
-      rematch G t (state m (filling_at s m.size)) M (record { absent = turned t.absent s false; filling = None; last = t.last }) (state m None) refl refl gone refl tt standing tt
+      rematch G t (state m (filling_at s m.size)) M (restored t s) (state m None) refl refl gone refl tt standing tt
     where
       was : (k : ℕ) → k ≢ s → absent (state m None) k ≡ false → absent (state m (filling_at s m.size)) k ≡ false
       was k d h = or_from (m.out k) (eqb k s) (out_absent m None k h).0 (ne_eqb k s d)
@@ -168,17 +166,8 @@ module _ {B : Type 0} (G : Group B) (t : Tally B) (m m' : Meaning B) (s k : ℕ)
         settled G m.size M.prime (absent before) m.block M.word M.code M.standing s k ls lk F.block F.recovered
         (inr (omega (arith, ltb-false 2 (absent_count before) few)))
 
-    -- the store's size, marks and the other pairs stay, whether the pair was put or not
-    record Frame : Type 0 where
-      size : m'.size ≡ m.size
-      out : (j : ℕ) → j < m.size → m'.out j ≡ m.out j
-      others : (p q : ℕ) → p < m.size → q < m.size → ((max p q ≡ max s k) × (min p q ≡ min s k) → ⊥) → of m'.block p q ≡ of m.block p q
-
-    frame : Frame
-    frame = elim (cases_Bool (m.out k)) [
-      | inl e ↦ let h : m' ≡ m = F.passed e in record { size = ap (λ x. x.size) h; out = λ j _. ap (λ x. x.out j) h; others = λ p q _ _ _. ap (λ x. of x.block p q) h }
-      | inr e ↦ let w : Written m s k F.block m' = F.put e in record { size = w.size; out = w.out; others = w.others }
-    ]
+    frame : Framed m s k m'
+    frame = framed G before s k m' F
 
     same : (j : ℕ) → j < m.size → absent before j ≡ absent after j
     same j l = ap (λ b. b || eqb j s) (sym (frame.out j l))
@@ -194,10 +183,7 @@ module _ {B : Type 0} (G : Group B) (t : Tally B) (m m' : Meaning B) (s k : ℕ)
     standing p q lp lq hp hq =
         let a : absent before p ≡ false = same p lp ∙ hp in
         let b : absent before q ≡ false = same q lq ∙ hq in
-        frame.others p q lp lq (λ x. meets p q (not_s p a) (not_s q b) x.0 x.1) ∙ M.standing p q lp lq (a, b)
-      where
-        meets : (p q : ℕ) → p ≢ s → q ≢ s → max p q ≡ max s k → min p q ≡ min s k → ⊥
-        meets p q dp dq x y = omega arith
+        without G before s k m' F p q lp lq (not_s p a) (not_s q b) ∙ M.standing p q lp lq (a, b)
 
     filled : (q : ℕ) → q < k + 1 → (absent after q ≡ false) ⊎ (q ≡ s) → of m'.block s q ≡ of M.word s q
     filled q lq c = elim (cases_eq q k) [
@@ -219,26 +205,28 @@ module _ {B : Type 0} (G : Group B) (t : Tally B) (m m' : Meaning B) (s k : ℕ)
         other : (q : ℕ) → max s q ≡ max s k → min s q ≡ min s k → q ≡ k
         other q x y = omega arith
 
-    pub keep_step : Matches G (record { absent = t.absent; filling = filling_at s (k + 1); last = t.last }) (state m' (filling_at s (k + 1)))
+    pub keep_step : Matches G (with_filling t (filling_at s (k + 1))) (state m' (filling_at s (k + 1)))
     keep_step =
-        rematch G t before M (record { absent = t.absent; filling = filling_at s (k + 1); last = t.last }) after frame.size refl (λ j l. M.gone j l ∙ same j l) refl
+        rematch G t before M (with_filling t (filling_at s (k + 1))) after frame.size refl (λ j l. M.gone j l ∙ same j l) refl
         (omega (arith, frame.size, M.sound.0), frame.out s ls ∙ M.sound.1, omega (arith, frame.size)) standing filled
 
   -- a fill that is accepted
   pub keep_fill : too_many (state m (filling_at s k)) ≡ false → FilledNext G (state m (filling_at s k)) (filling_at s k) m'
-      → Matches G (record { absent = t.absent; filling = stepped m.size t.filling; last = t.last }) (state m' (stepped m.size (filling_at s k)))
-  keep_fill few F = elim (cases_lt k m.size) [
-    | inl l ↦ let b : ltb k m.size ≡ true = lt-ltb k m.size l in
-        subst (λ f. Matches G (record { absent = t.absent; filling = f; last = t.last }) (state m' (cond (ltb k m.size) (filling_at s (k + 1)) (filling_at s k)))) (sym (ap (stepped m.size) M.filling))
-        (subst (λ c. Matches G (record { absent = t.absent; filling = cond c (filling_at s (k + 1)) (filling_at s k); last = t.last }) (state m' (cond c (filling_at s (k + 1)) (filling_at s k)))) (sym b) (keep_step l few (F.0 l)))
-    | inr l ↦ let b : ltb k m.size ≡ false = le-ltb k m.size l in
-        subst (λ f. Matches G (record { absent = t.absent; filling = f; last = t.last }) (state m' (cond (ltb k m.size) (filling_at s (k + 1)) (filling_at s k)))) (sym (ap (stepped m.size) M.filling))
-        (subst (λ c. Matches G (record { absent = t.absent; filling = cond c (filling_at s (k + 1)) (filling_at s k); last = t.last }) (state m' (cond c (filling_at s (k + 1)) (filling_at s k)))) (sym b)
-        (subst (λ x. Matches G (record { absent = t.absent; filling = filling_at s k; last = t.last }) (state x (filling_at s k))) (sym (F.1 l)) (still M)))
-  ]
+      → Matches G (with_filling t (stepped m.size t.filling)) (state m' (stepped m.size (filling_at s k)))
+  keep_fill few F =
+      subst (λ f. Matches G (with_filling t (stepped m.size f)) (state m' (stepped m.size (filling_at s k)))) (sym M.filling)
+      (elim (cases_lt k m.size) [
+        | inl l ↦ subst (λ c. Matches G (with_filling t (next c)) (state m' (next c))) (sym (lt-ltb k m.size l)) (keep_step l few (F.0 l))
+        | inr l ↦ subst (λ c. Matches G (with_filling t (next c)) (state m' (next c))) (sym (le-ltb k m.size l))
+            (subst (λ x. Matches G (with_filling t (filling_at s k)) (state x (filling_at s k))) (sym (F.1 l)) still)
+      ])
     where
-      still : Matches G t (state m (filling_at s k)) → Matches G (record { absent = t.absent; filling = filling_at s k; last = t.last }) (state m (filling_at s k))
-      still M = rematch G t (state m (filling_at s k)) M (record { absent = t.absent; filling = filling_at s k; last = t.last }) (state m (filling_at s k)) refl refl M.gone refl M.sound (λ p q lp lq hp hq. M.standing p q lp lq (hp, hq)) M.filled
+      -- the record after it, where there was a next partner and where there was none
+      next : Bool → Option Filling
+      next c = cond c (filling_at s (k + 1)) (filling_at s k)
+
+      still : Matches G (with_filling t (filling_at s k)) (state m (filling_at s k))
+      still = subst (λ f. Matches G (with_filling t f) (state m (filling_at s k))) M.filling M
 
 module _ {B : Type 0} (G : Group B) (st st' : State B) where
   -- a book that was just opened

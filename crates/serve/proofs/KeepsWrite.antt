@@ -2,7 +2,7 @@
 use Rattle.std.proofs.Common.{◌≡◌, ℕ, ◌+◌, ◌<◌, ◌≤◌, min, max, Bool, true, false, cond, ◌&&◌, ◌||◌, eqb, Some, None, Option, sym, refl, ap, ◌∙◌, subst, ap₂, inl, inr, arith}
 use Rattle.std.proofs.lemmas.Bool.{cases_eq, eq-eqb, ne_eqb, or_parts, cond-false, and_left, and_right}
 use Rattle.kinds.specs.Group.{Group}
-use Rattle.code.specs.Rules.{Blocks, of, Codeword}
+use Rattle.code.specs.Rules.{Blocks, of, changed, Codeword}
 use Rattle.code.specs.Sizes.{OddPrime}
 use Rattle.code.proofs.Homs.{images, image_code}
 use Rattle.code.proofs.Only.{both}
@@ -11,7 +11,7 @@ use Rattle.code.proofs.Sums.{laws}
 use Rattle.state.specs.Calls.{Wrote}
 use Rattle.serve.specs.Matches.{Matches, FilledPairs}
 use Rattle.state.specs.States.{State, size_of, absent, absent_count, being_filled, SoundAt}
-use Rattle.serve.specs.Tally.{Tally, DataPair}
+use Rattle.serve.specs.Tally.{Tally, DataPair, written}
 use Rattle.state.specs.declared.records.Filling.{Filling}
 
 module _ {B : Type 0} (G : Group B) (t : Tally B) (st st' : State B) (a b : ℕ) (x : B) (M : Matches G t st) (few : absent_count st ≤ 2) (la : a < size_of st) (lb : b < size_of st) (W : Wrote G st a b x st') where
@@ -66,11 +66,7 @@ module _ {B : Type 0} (G : Group B) (t : Tally B) (st st' : State B) (a b : ℕ)
   inside : (s : ℕ) → absent st s ≡ false → st.store.out s ≡ false
   inside s h = (or_parts (st.store.out s) (being_filled st.filling s) h).0
 
-  -- the last writes
-  abbrev last' : Blocks B
-  last' p q = cond (eqb p (max a b) && eqb q (min a b)) x (t.last p q)
-
-  agrees : (p q : ℕ) → p < size_of st → q < size_of st → DataPair (size_of st) p q → of word' p q ≡ of last' p q
+  agrees : (p q : ℕ) → p < size_of st → q < size_of st → DataPair (size_of st) p q → of word' p q ≡ of (changed t.last a b x) p q
   agrees p q lp lq dp = elim (cases_eq (max p q) (max a b)) [
     | inl e ↦ elim (cases_eq (min p q) (min a b)) [
       | inl f ↦ ap₂ word' e f ∙ new ∙ sym (ap₂ (λ u v. cond (u && v) x (of t.last p q)) (eq-eqb (max p q) (max a b) e) (eq-eqb (min p q) (min a b) f))
@@ -93,7 +89,7 @@ module _ {B : Type 0} (G : Group B) (t : Tally B) (st st' : State B) (a b : ℕ)
   sound_same None w = tt
   sound_same (Some f) w = (omega (arith, W.size, w.0), W.out f.station w.0 ∙ w.1, omega (arith, W.size, w.2))
 
-  pub keep_write : Matches G (record { absent = t.absent; filling = t.filling; last = λ p q. cond (eqb p (max a b) && eqb q (min a b)) x (t.last p q) }) st'
+  pub keep_write : Matches G (written t a b x) st'
   keep_write = record {
     prime = subst OddPrime (sym W.size) M.prime;
     gone = λ s l. M.gone s (omega (arith, W.size)) ∙ same s (omega (arith, W.size));

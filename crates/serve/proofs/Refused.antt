@@ -1,10 +1,11 @@
 -- What the calls of a book answer, by the tally that it matches.
 use Rattle.std.proofs.Common.{◌≡◌, ℕ, ◌+◌, ◌*◌, ◌<◌, min, max, Bool, true, false, cond, ◌&&◌, ◌||◌, eqb, ltb, leb, is_ok, Some, None, Ok, Err, Option, Result, sym, refl, ap, ◌∙◌, subst, ap₂, inl, inr, arith}
+use Rattle.std.proofs.Math.Bool.{or-false}
 use Rattle.std.proofs.lemmas.Bool.{leb-false, eqb-true, cases_Bool}
 use Rattle.kinds.specs.Group.{Group}
 use Rattle.faults.specs.declared.faults.Fault.{Fault}
 use Rattle.faults.specs.declared.faults.Fault.TheVariants.{AreaTooShort, NoSuchStation, CheckPair, AlreadyAbsent, NotOut, TooManyAbsent, TicketRefused}
-use Rattle.state.specs.Calls.{data_answer, read_answer, write_answer, lose_answer, fit_answer, fill_answer, finish_answer, none_filled, too_many}
+use Rattle.state.specs.Calls.{data_answer, read_answer, write_answer, lose_answer, fit_answer, fill_answer, finish_answer, few_answer, none_filled, too_many}
 use Rattle.state.specs.Fillings.{next_of}
 use Rattle.state.specs.States.{State, size_of, absent, absent_count, being_filled, SoundAt}
 use Rattle.state.specs.declared.records.Filling.{Filling}
@@ -77,7 +78,7 @@ module _ {B : Type 0} (G : Group B) (t : Tally B) (st : State B) (M : Matches G 
       (λ la lb. many_as (absent st a || absent st b) (t.absent a || t.absent b) (ap₂ ◌||◌ (here a la) (here b lb)))
 
   pub write_as : (len a b : ℕ) → write_answer st len a b ≡ outcome (unless_short n t len (data_refusal n t a b (unless_many n t true)))
-  write_as len a b = data_as len a b (cond (too_many st) (Err (TooManyAbsent (absent_count st))) (Ok tt)) (unless_many n t true) (λ _ _. many_as true true refl)
+  write_as len a b = data_as len a b (few_answer st) (unless_many n t true) (λ _ _. many_as true true refl)
 
   pub lose_as : (s : ℕ) → lose_answer st s ≡ outcome (cond (leb n s) (Some (NoSuchStation s)) (cond (t.absent s) (Some (AlreadyAbsent s)) None))
   lose_as s =
@@ -91,13 +92,9 @@ module _ {B : Type 0} (G : Group B) (t : Tally B) (st : State B) (M : Matches G 
       go : (f : Option Filling) → st.filling ≡ f → st.store.out s ≡ cond (being_filled f s) false (absent st s)
       go f e = elim (cases_Bool (being_filled f s)) [
         | inl b ↦ being f e b ∙ sym (ap (λ c. cond c false (absent st s)) b)
-        | inr b ↦ sym (ap (λ c. cond c false (absent st s)) b ∙ ap (λ g. st.store.out s || being_filled g s) e ∙ ap (λ c. st.store.out s || c) b ∙ or_none (st.store.out s))
+        | inr b ↦ sym (ap (λ c. cond c false (absent st s)) b ∙ ap (λ g. st.store.out s || being_filled g s) e ∙ ap (λ c. st.store.out s || c) b ∙ or-false (st.store.out s))
       ]
         where
-          or_none : (b : Bool) → b || false ≡ b
-          or_none true = refl
-          or_none false = refl
-
           being : (f : Option Filling) → st.filling ≡ f → being_filled f s ≡ true → st.store.out s ≡ false
           being None e b = let z : ◌≡◌ {A = ℕ} 0 1 = cc in absurd (omega arith)
           being (Some f) e b = ap st.store.out (eqb-true s f.station b) ∙ (subst (SoundAt n st.store.out) e M.sound).1
@@ -115,9 +112,9 @@ module _ {B : Type 0} (G : Group B) (t : Tally B) (st : State B) (M : Matches G 
 
   pub fill_as : (len s : ℕ) → fill_answer st len s ≡ outcome (unless_short n t len (cond (being_filled t.filling s) (unless_many n t true) (Some (TicketRefused s))))
   fill_as len s =
-      both (ltb len (8 * n)) (AreaTooShort len) (cond (being_filled st.filling s) (cond (too_many st) (Err (TooManyAbsent (absent_count st))) (Ok tt)) (Err (TicketRefused s))) (cond (being_filled t.filling s) (unless_many n t true) (Some (TicketRefused s)))
-      (λ _. ap (λ f. cond (being_filled f s) (cond (too_many st) (Err (TooManyAbsent (absent_count st))) (Ok tt)) (Err (TicketRefused s))) (sym M.filling)
-      ∙ passing (being_filled t.filling s) (TicketRefused s) (cond (too_many st) (Err (TooManyAbsent (absent_count st))) (Ok tt)) (unless_many n t true) (λ _. many_as true true refl))
+      both (ltb len (8 * n)) (AreaTooShort len) (cond (being_filled st.filling s) (few_answer st) (Err (TicketRefused s))) (cond (being_filled t.filling s) (unless_many n t true) (Some (TicketRefused s)))
+      (λ _. ap (λ f. cond (being_filled f s) (few_answer st) (Err (TicketRefused s))) (sym M.filling)
+      ∙ passing (being_filled t.filling s) (TicketRefused s) (few_answer st) (unless_many n t true) (λ _. many_as true true refl))
 
   pub finish_as : (s : ℕ) → finish_answer st s ≡ outcome (cond (being_filled t.filling s && eqb (next_of t.filling) n) None (Some (TicketRefused s)))
   finish_as s =

@@ -1,9 +1,9 @@
 -- One turn: what the call is promised, and that the book still matches the tally.
 use Rattle.std.proofs.Common.{◌≡◌, ℕ, ◌+◌, ◌*◌, ◌<◌, ◌≤◌, min, max, Bool, true, false, cond, ◌&&◌, ◌||◌, eqb, ◌⊎◌, is_ok, Some, None, Ok, Err, Option, Result, sym, refl, ap, ◌∙◌, subst, ap₂, inl, inr, arith}
-use Rattle.std.proofs.lemmas.Bool.{cases_lt, cases_Bool, both_ways, ltb-true, ltb-false, lt-ltb, and_cases, and_parts, and_from, or_parts, eqb-true, eq-eqb}
+use Rattle.std.proofs.Math.Logic.{◌↔◌}
+use Rattle.std.proofs.lemmas.Bool.{cases_lt, both_ways, ltb-true, ltb-false, lt-ltb, and_cases, and_parts, and_from, or_parts, eqb-true, eq-eqb}
 use Rattle.std.proofs.lemmas.Bool.Decides.{nat_tests}
 use Rattle.kinds.specs.Group.{Group}
-use Rattle.code.specs.Marks.{turned}
 use Rattle.code.specs.Rebuilt.{absentees, Kept}
 use Rattle.recovery.specs.Recovery.{RecoveredFrom}
 use Rattle.code.specs.Rules.{of}
@@ -11,11 +11,11 @@ use Rattle.faults.specs.declared.faults.Fault.{Fault}
 use Rattle.faults.specs.declared.faults.Fault.TheVariants.{TooManyAbsent}
 use Rattle.code.proofs.Absent.{absentees_cong}
 use Rattle.code.proofs.Settled.{settled}
-use Rattle.state.specs.Calls.{read_answer, write_answer, lose_answer, none_filled, fit_answer, finish_answer, too_many, FilledNext}
+use Rattle.state.specs.Calls.{few_answer, read_answer, write_answer, finish_answer, too_many, FilledNext}
 use Rattle.state.specs.Fillings.{next_of, stepped}
 use Rattle.serve.specs.Matches.{Matches}
 use Rattle.state.specs.States.{State, state, size_of, absent, absent_count, being_filled, filling_at, seen}
-use Rattle.serve.specs.Tally.{Tally, DataPair, TooMany, IsRefused, Iff, Holds, Promised, tallied, ended}
+use Rattle.serve.specs.Tally.{Tally, DataPair, TooMany, IsRefused, Holds, Promised, tallied, ended, lost, with_filling, restored}
 use Rattle.serve.specs.Turns.{Made}
 use Rattle.serve.specs.declared.turns.Answer.{Answer}
 use Rattle.serve.specs.declared.turns.Answer.TheVariants.{NotMade, Refused, Given, Accepted, Untouched}
@@ -23,7 +23,7 @@ use Rattle.serve.specs.declared.turns.Call.{Call}
 use Rattle.serve.specs.declared.turns.Sort.{Sort}
 use Rattle.serve.specs.declared.turns.Call.TheVariants.{Write, Read, Lose, Fit, Fill, Finish, Abandon}
 use Rattle.state.specs.declared.records.Filling.{Filling}
-use Rattle.state.proofs.Fillings.{fill_fine}
+use Rattle.state.proofs.Fillings.{lose_fine, fits, fill_fine, framed}
 use Rattle.serve.proofs.Keeps.{keep_lose, keep_fit, keep_fill, keep_finish, keep_abandon}
 use Rattle.serve.proofs.KeepsWrite.{keep_write}
 use Rattle.state.proofs.Datas.{Fine, fine, fine_answer}
@@ -42,10 +42,7 @@ module _ {B : Type 0} (st : State B) (len a b : ℕ) where
     | inr p ↦ inr (λ d. let x : a + 2 < size_of st = d.0 in omega arith)
   ]
 
-  -- what a write and a read look at last
-  abbrev last_write : Result (Unit {0}) Fault
-  last_write = cond (too_many st) (Err (TooManyAbsent (absent_count st))) (Ok tt)
-
+  -- what a read looks at last
   abbrev last_read : Result (Unit {0}) Fault
   last_read = cond ((absent st a || absent st b) && too_many st) (Err (TooManyAbsent (absent_count st))) (Ok tt)
 
@@ -60,14 +57,14 @@ module _ {B : Type 0} (st : State B) (len a b : ℕ) where
   -- why a write was refused, and what an accepted one has
   pub write_why : 8 * size_of st ≤ len → is_ok (write_answer st len a b) ≡ false → (DataPair (size_of st) a b → ⊥) ⊎ (3 ≤ absent_count st)
   write_why l e = elim is_pair [
-    | inl d ↦ inr (ltb-true 2 (absent_count st) (err_from (too_many st) (TooManyAbsent (absent_count st)) (ap is_ok (sym (fine_answer st len a b (fine_pair l d) last_write)) ∙ e)))
+    | inl d ↦ inr (ltb-true 2 (absent_count st) (err_from (too_many st) (TooManyAbsent (absent_count st)) (ap is_ok (sym (fine_answer st len a b (fine_pair l d) (few_answer st))) ∙ e)))
     | inr d ↦ inl d
   ]
 
   pub write_has : is_ok (write_answer st len a b) ≡ true → Fine st len a b × (absent_count st ≤ 2)
   write_has e =
-      let f : Fine st len a b = fine st len a b last_write e in
-      let t : too_many st ≡ false = ok_from (too_many st) (TooManyAbsent (absent_count st)) (ap is_ok (sym (fine_answer st len a b f last_write)) ∙ e) in
+      let f : Fine st len a b = fine st len a b (few_answer st) e in
+      let t : too_many st ≡ false = ok_from (too_many st) (TooManyAbsent (absent_count st)) (ap is_ok (sym (fine_answer st len a b f (few_answer st))) ∙ e) in
       (f, omega (arith, ltb-false 2 (absent_count st) t))
 
   -- the same of a read
@@ -120,16 +117,16 @@ module _ {B : Type 0} (G : Group B) (most : ℕ) (t : Tally B) (st st' : State B
   unchanged c r e p q = record { promised = p; size = ap size_of e; matched = subst (λ x. Matches G x st') (sym q) (subst (Matches G t) (sym e) M) }
 
   -- a refused call's promise
-  refused_iff : {P : Type 0} (f : Fault) → P → Iff (IsRefused {B = B} (Refused f)) P
+  refused_iff : {P : Type 0} (f : Fault) → P → IsRefused {B = B} (Refused f) ↔ P
   refused_iff f p = (λ _. p, λ _. (f, refl))
 
-  accepted_iff : {P : Type 0} → (P → ⊥) → Iff (IsRefused {B = B} Accepted) P
+  accepted_iff : {P : Type 0} → (P → ⊥) → IsRefused {B = B} Accepted ↔ P
   accepted_iff h = (λ i. let e : Accepted ≡ Refused i.0 = i.1 in absurd (clash e), λ p. absurd (h p))
     where
       clash : {f : Fault} → ◌≡◌ {A = Answer B} Accepted (Refused f) → ⊥
       clash e = let z : ◌≡◌ {A = ℕ} 0 1 = cc in omega arith
 
-  given_iff : {P : Type 0} (x : B) → (P → ⊥) → Iff (IsRefused {B = B} (Given x)) P
+  given_iff : {P : Type 0} (x : B) → (P → ⊥) → IsRefused {B = B} (Given x) ↔ P
   given_iff x h = (λ i. absurd (clash i.1), λ p. absurd (h p))
     where
       clash : {f : Fault} → ◌≡◌ {A = Answer B} (Given x) (Refused f) → ⊥
@@ -175,10 +172,6 @@ module _ {B : Type 0} (G : Group B) (most : ℕ) (t : Tally B) (st st' : State B
   turn_read a b area Accepted h = absurd h
   turn_read a b area Untouched h = absurd h
 
-  -- a station that may be lost stands, one that may be fitted is out and none is being filled
-  lose_has : (s : ℕ) → is_ok (lose_answer st s) ≡ true → absent st s ≡ false
-  lose_has s e = grind (arith, nat_tests)
-
   turn_lose : (s : ℕ) (r : Answer B) → Made G most st (Lose s) r st' → KeptTurn G most t st (Lose s) r st'
   turn_lose s NotMade h = absurd h
   turn_lose s (Refused f) h = unchanged (Lose s) (Refused f) h.1 tt refl
@@ -186,33 +179,22 @@ module _ {B : Type 0} (G : Group B) (most : ℕ) (t : Tally B) (st st' : State B
   turn_lose s Accepted h = record {
     promised = tt;
     size = h.1.size;
-    matched = subst (λ f. Matches G (record { absent = turned t.absent s true; filling = t.filling; last = t.last }) (state st'.store f)) (sym h.2)
-        (keep_lose G t st.store st'.store s st.filling M (lose_has s (ap is_ok h.0)) h.1);
+    matched = subst (λ f. Matches G (lost t s) (state st'.store f)) (sym h.2)
+        (keep_lose G t st.store st'.store s st.filling M (lose_fine st s h.0) h.1);
   }
   turn_lose s Untouched h = absurd h
-
-  fit_has : (s : ℕ) → is_ok (fit_answer st s) ≡ true → (s < size_of st) × (st.store.out s ≡ true)
-  fit_has s e = (grind (arith, nat_tests), grind (arith, nat_tests))
-
-  fit_idle : (f : Option Filling) → is_ok (none_filled st f) ≡ true → f ≡ None
-  fit_idle None e = refl
-  fit_idle (Some f) e = absurd (both_ways false refl e)
-
-  fit_last : (s : ℕ) → is_ok (fit_answer st s) ≡ true → is_ok (none_filled st st.filling) ≡ true
-  fit_last s e = grind (arith, nat_tests)
 
   turn_fit : (s : ℕ) (r : Answer B) → Made G most st (Fit s) r st' → KeptTurn G most t st (Fit s) r st'
   turn_fit s NotMade h = unchanged (Fit s) NotMade h tt refl
   turn_fit s (Refused f) h = unchanged (Fit s) (Refused f) h.1 tt refl
   turn_fit s (Given y) h = absurd h
   turn_fit s Accepted h =
-      let p = fit_has s (ap is_ok h.0) in
-      let idle : st.filling ≡ None = fit_idle st.filling (fit_last s (ap is_ok h.0)) in
+      let p = fits st s h.0 in
       record {
         promised = tt;
         size = h.1.size;
-        matched = subst (λ f. Matches G (record { absent = t.absent; filling = filling_at s 0; last = t.last }) (state st'.store f)) (sym h.2)
-            (keep_fit G t st.store st'.store s (subst (λ f. Matches G t (state st.store f)) idle M) p.0 p.1 h.1);
+        matched = subst (λ f. Matches G (with_filling t (filling_at s 0)) (state st'.store f)) (sym h.2)
+            (keep_fit G t st.store st'.store s (subst (λ f. Matches G t (state st.store f)) p.idle M) p.station p.out h.1);
       }
   turn_fit s Untouched h = absurd h
 
@@ -233,16 +215,13 @@ module _ {B : Type 0} (G : Group B) (most : ℕ) (t : Tally B) (st st' : State B
           let K = keep_fill G t st.store st'.store f.station f.next M' few' F' in
           record {
             promised = tt;
-            size = filled_size (size_of st) (cases_lt f.next (size_of st)) F';
-            matched = subst (λ f. Matches G (record { absent = t.absent; filling = stepped (size_of st) t.filling; last = t.last }) (state st'.store f)) (sym (q ∙ ap (stepped (size_of st)) e)) K;
+            size = filled_size (cases_lt f.next (size_of st)) F';
+            matched = subst (λ f. Matches G (with_filling t (stepped (size_of st) t.filling)) (state st'.store f)) (sym (q ∙ ap (stepped (size_of st)) e)) K;
           }
         where
-          filled_size : (n : ℕ) → (f.next < size_of st) ⊎ (size_of st ≤ f.next) → FilledNext G (state st.store (Some f)) (Some f) st'.store → size_of st' ≡ size_of st
-          filled_size n (inl l) F = elim (cases_Bool (st.store.out f.next)) [
-            | inl o ↦ ap (λ m. m.size) ((F.0 l).passed o)
-            | inr o ↦ ((F.0 l).put o).size
-          ]
-          filled_size n (inr l) F = ap (λ m. m.size) (F.1 l)
+          filled_size : (f.next < size_of st) ⊎ (size_of st ≤ f.next) → FilledNext G (state st.store (Some f)) (Some f) st'.store → size_of st' ≡ size_of st
+          filled_size (inl l) F = (framed G (state st.store (Some f)) f.station f.next st'.store (F.0 l)).size
+          filled_size (inr l) F = ap (λ m. m.size) (F.1 l)
   turn_fill s area Untouched h = absurd h
 
   finish_has : (s : ℕ) → is_ok (finish_answer st s) ≡ true → (being_filled st.filling s && eqb (next_of st.filling) (size_of st)) ≡ true
@@ -268,8 +247,8 @@ module _ {B : Type 0} (G : Group B) (most : ℕ) (t : Tally B) (st st' : State B
           record {
             promised = tt;
             size = ap (λ m. m.size) h.1;
-            matched = subst (λ f. Matches G (record { absent = turned t.absent s false; filling = f; last = t.last }) st') (sym gone)
-                (subst (Matches G (record { absent = turned t.absent s false; filling = None; last = t.last })) (sym (ap₂ state h.1 h.2)) (keep_finish G t st.store s M'));
+            matched = subst (λ f. Matches G (with_filling (restored t s) f) st') (sym gone)
+                (subst (Matches G (restored t s)) (sym (ap₂ state h.1 h.2)) (keep_finish G t st.store s M'));
           }
   turn_finish s Untouched h = absurd h
 
@@ -291,11 +270,11 @@ module _ {B : Type 0} (G : Group B) (most : ℕ) (t : Tally B) (st st' : State B
           record {
             promised = tt;
             size = (h.1 M.sound).size;
-            matched = subst (λ f. Matches G (record { absent = t.absent; filling = f; last = t.last }) st') (sym gone)
-                (subst (λ f. Matches G (record { absent = t.absent; filling = None; last = t.last }) (state st'.store f)) (sym h.2) (keep_abandon G t st.store st'.store s k M' (h.1 M.sound)));
+            matched = subst (λ f. Matches G (with_filling t f) st') (sym gone)
+                (subst (λ f. Matches G (with_filling t None) (state st'.store f)) (sym h.2) (keep_abandon G t st.store st'.store s k M' (h.1 M.sound)));
           }
   turn_abandon s sort Untouched h =
-      unchanged (Abandon s sort) Untouched h.1 tt (ap (λ f. record { absent = t.absent; filling = f; last = t.last }) (ap (ended s) M.filling ∙ stays st.filling h.0 ∙ sym M.filling))
+      unchanged (Abandon s sort) Untouched h.1 tt (ap (with_filling t) (ap (ended s) M.filling ∙ stays st.filling h.0 ∙ sym M.filling))
     where
       stays : (f : Option Filling) → being_filled f s ≡ false → ended s f ≡ f
       stays None e = refl

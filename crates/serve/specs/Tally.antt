@@ -1,5 +1,5 @@
 -- What the accepted calls of a newly opened book come to, and what its client is promised.
-use Rattle.std.specs.Prelude.{◌≡◌, ℕ, ◌+◌, ◌*◌, ◌<◌, ◌≤◌, min, Bool, true, false, cond, ◌||◌, ◌⊎◌, List, [], ◌∷◌, Some, None, Option, ◌==◌}
+use Rattle.std.specs.Prelude.{◌≡◌, ℕ, ◌+◌, ◌*◌, ◌<◌, ◌≤◌, min, Bool, true, false, cond, ◌||◌, ◌⊎◌, List, [], ◌∷◌, Some, None, Option, ◌==◌, ◌↔◌}
 use Rattle.kinds.specs.Group.{Group}
 use Rattle.code.specs.Rebuilt.{absentees, Kept}
 use Rattle.code.specs.Marks.{turned}
@@ -38,15 +38,23 @@ written t a b x = record { absent = t.absent; filling = t.filling; last = change
 abbrev pub lost : {B : Type 0} → Tally B → ℕ → Tally B
 lost t s = record { absent = turned t.absent s true; filling = t.filling; last = t.last }
 
+-- with another filling
+abbrev pub with_filling : {B : Type 0} → Tally B → Option Filling → Tally B
+with_filling t f = record { absent = t.absent; filling = f; last = t.last }
+
+-- with s standing and no filling
+abbrev pub restored : {B : Type 0} → Tally B → ℕ → Tally B
+restored t s = record { absent = turned t.absent s false; filling = None; last = t.last }
+
 -- one more accepted call, of n stations
 abbrev pub accepted : {B : Type 0} → ℕ → Tally B → Call B → Tally B
 accepted n t (Write a b x area) = written t a b x
 accepted n t (Read a b area) = t
 accepted n t (Lose s) = lost t s
-accepted n t (Fit s) = record { absent = t.absent; filling = filling_at s 0; last = t.last }
-accepted n t (Fill s area) = record { absent = t.absent; filling = stepped n t.filling; last = t.last }
+accepted n t (Fit s) = with_filling t (filling_at s 0)
+accepted n t (Fill s area) = with_filling t (stepped n t.filling)
 accepted n t (Finish s) = record { absent = turned t.absent s false; filling = ended s t.filling; last = t.last }
-accepted n t (Abandon s sort) = record { absent = t.absent; filling = ended s t.filling; last = t.last }
+accepted n t (Abandon s sort) = with_filling t (ended s t.filling)
 
 -- refused calls change nothing
 abbrev pub tallied : {B : Type 0} → ℕ → Tally B → Call B → Answer B → Tally B
@@ -66,17 +74,14 @@ TooMany n t = 3 ≤ absentees t.absent n
 abbrev pub IsRefused : {B : Type 0} → Answer B → Type 0
 IsRefused {B} r = (f : Fault) × (◌≡◌ {A = Answer B} r (Refused f))
 
-abbrev pub Iff : Type 0 → Type 0 → Type 0
-Iff P Q = (P → Q) × (Q → P)
-
 -- what the next call is promised, with a work area of so many blocks to be had: an answered read is the last write; with
 -- a full work area a write is refused exactly if its pair is no data pair or three or more are absent, and a read exactly
 -- if its pair is no data pair, or three or more are absent and one of them is in it
 abbrev pub Promised : {B : Type 0} → ℕ → ℕ → Tally B → Call B → Answer B → Type 0
-Promised n most t (Write a b x area) r = 8 * n ≤ min area most → Iff (IsRefused r) ((DataPair n a b → ⊥) ⊎ TooMany n t)
+Promised n most t (Write a b x area) r = 8 * n ≤ min area most → IsRefused r ↔ ((DataPair n a b → ⊥) ⊎ TooMany n t)
 Promised {B} n most t (Read a b area) r =
     ((x : B) → ◌≡◌ {A = Answer B} r (Given x) → x ≡ of t.last a b)
-    × (8 * n ≤ min area most → Iff (IsRefused r) ((DataPair n a b → ⊥) ⊎ (TooMany n t × ((t.absent a || t.absent b) ≡ true))))
+    × (8 * n ≤ min area most → IsRefused r ↔ ((DataPair n a b → ⊥) ⊎ (TooMany n t × ((t.absent a || t.absent b) ≡ true))))
 Promised n most t (Lose s) r = Unit {0}
 Promised n most t (Fit s) r = Unit {0}
 Promised n most t (Fill s area) r = Unit {0}

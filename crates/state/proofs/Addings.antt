@@ -1,5 +1,6 @@
 -- Blocks added to the pairs of a store: one pair, then a row, then a codeword.
 use Rattle.std.proofs.Common.{◌≡◌, ℕ, ◌+◌, ◌<◌, ◌≤◌, min, max, Bool, true, false, cond, ◌&&◌, ◌||◌, eqb, ◌⊎◌, List, get_or, is_ok, Result, sym, refl, ap, ◌∙◌, subst, ap₂, inl, inr, arith}
+use Rattle.std.proofs.Math.Bool.{or_comm}
 use Rattle.std.proofs.lemmas.Bool.{cases_eq, and_left, and_right, ne_eqb, eq-eqb, and_from, cond-true, cond-false}
 use Rattle.std.proofs.lemmas.Bool.Decides.{nat_tests}
 use Rattle.kinds.specs.Group.{Group}
@@ -11,15 +12,9 @@ use Rattle.store.specs.Meaning.{Meaning, get_answer}
 use Rattle.recovery.specs.Patterns.{spot}
 use Rattle.state.specs.Additions.{row_part, Added}
 
-or_swap : (x y : Bool) → (x || y) ≡ (y || x)
-or_swap true true = refl
-or_swap true false = refl
-or_swap false true = refl
-or_swap false false = refl
-
 -- whether a station of a pair is out, by the larger and the smaller
 either_out : (out : ℕ → Bool) (p q : ℕ) → (out (max p q) || out (min p q)) ≡ (out p || out q)
-either_out out p q = ordered (λ x y. (out x || out y) ≡ (out p || out q)) p q refl (or_swap (out q) (out p))
+either_out out p q = ordered (λ x y. (out x || out y) ≡ (out p || out q)) p q refl (or_comm (out q) (out p))
 
 -- d at one pair, and none elsewhere
 module _ {X : Type 0} (none d : X) (a b u v : ℕ) where

@@ -1,34 +1,20 @@
 -- The filling of a station from its beginning to its end: no fill is refused, and what the book matched it still matches.
-use Rattle.std.proofs.Common.{◌≡◌, ℕ, ◌+◌, ◌<◌, ◌≤◌, min, max, Bool, true, false, cond, ◌||◌, ltb, ◌≢◌, Ok, sym, refl, ap, ◌∙◌, subst, ap₂, inl, inr, arith}
-use Rattle.std.proofs.lemmas.Bool.{cases_Bool, lt-ltb, ltb-true, ltb-false}
+use Rattle.std.proofs.Common.{◌≡◌, ℕ, ◌+◌, ◌<◌, ◌≤◌, Bool, true, false, cond, ◌||◌, ltb, Ok, sym, refl, ap, ◌∙◌, subst, ap₂, arith}
+use Rattle.std.proofs.lemmas.Bool.{lt-ltb, ltb-true, ltb-false}
 use Rattle.kinds.specs.Group.{Group}
 use Rattle.code.specs.Rebuilt.{absentees}
-use Rattle.code.specs.Rules.{of}
 use Rattle.code.proofs.Absent.{absentees_cong}
-use Rattle.store.specs.Meaning.{Meaning, Written}
 use Rattle.state.specs.Calls.{too_many, Filled, FilledNext}
 use Rattle.state.specs.Fillings.{next_of, stepped}
+use Rattle.state.proofs.Fillings.{framed, without}
 use Rattle.book.specs.Tickets.{ticket_after}
 use Rattle.state.specs.States.{State, state, size_of, absent, absent_count, being_filled, filling_at, Sound, SoundAt}
 use Rattle.book.specs.declared.tickets.TicketOf.{TicketOf}
 use Rattle.book.specs.declared.tickets.Ticket.TheVariants.{Open, Full}
 use Rattle.serve.specs.Matches.{Matches}
+use Rattle.serve.specs.Tally.{with_filling}
 use Rattle.serve.proofs.Keeps.{keep_fill}
-use Rattle.transcript.specs.Replaces.{CanFillUp, FilledTo, FilledUp, with_filling}
-
--- what a fill leaves as it was
-record Framed {B : Type 0} (m : Meaning B) (s : ℕ) (m' : Meaning B) : Type 0 where
-  size : m'.size ≡ m.size
-  out : (k : ℕ) → k < m.size → m'.out k ≡ m.out k
-  others : (p q : ℕ) → p < m.size → q < m.size → p ≢ s → q ≢ s → of m'.block p q ≡ of m.block p q
-
-framed : {B : Type 0} (G : Group B) (st : State B) (s k : ℕ) (m' : Meaning B) → Filled G st s k m' → Framed st.store s m'
-framed G st s k m' F = elim (cases_Bool (st.store.out k)) [
-  | inl o ↦ let e : m' ≡ st.store = F.passed o in
-      record { size = ap (λ m. m.size) e; out = λ j l. ap (λ m. m.out j) e; others = λ p q lp lq np nq. ap (λ m. of m.block p q) e }
-  | inr o ↦ let w : Written st.store s k F.block m' = F.put o in
-      record { size = w.size; out = w.out; others = λ p q lp lq np nq. w.others p q lp lq (λ h. let x : max p q ≡ max s k = h.0 in let y : min p q ≡ min s k = h.1 in omega arith) }
-]
+use Rattle.transcript.specs.Replaces.{CanFillUp, FilledTo, FilledUp}
 
 -- which ticket came out
 full_at : (n next t : ℕ) (f : TicketOf 1) → Full f ≡ ticket_after n next t → (n ≤ next) × (f.station ≡ t)
@@ -79,13 +65,14 @@ module _ {B : Type 0} (G : Group B) (st : State B) (s len : ℕ) (can : CanFillU
     one_more st₂ l put e =
         let l₁ : k < size_of st₁ = omega (arith, F.size) in
         let next : FilledNext G (state st₁.store (filling_at s k)) (filling_at s k) st₂.store = subst (λ f. FilledNext G (state st₁.store f) f st₂.store) F.filling (put sound_at) in
-        let fr = framed G (state st₁.store (filling_at s k)) s k st₂.store (next.0 l₁) in
+        let put : Filled G (state st₁.store (filling_at s k)) s k st₂.store = next.0 l₁ in
+        let frame = framed G (state st₁.store (filling_at s k)) s k st₂.store put in
         let step : stepped (size_of st₁) (filling_at s k) ≡ filling_at s (k + 1) = ap (λ c. cond c (filling_at s (k + 1)) (filling_at s k)) (lt-ltb k (size_of st₁) l₁) in
         let at : st₂.filling ≡ filling_at s (k + 1) = e ∙ ap (stepped (size_of st₁)) F.filling ∙ step in
         record {
-          size = fr.size ∙ F.size;
-          out = λ j lj. fr.out j (omega (arith, F.size)) ∙ F.out j lj;
-          others = λ p q lp lq np nq. fr.others p q (omega (arith, F.size)) (omega (arith, F.size)) np nq ∙ F.others p q lp lq np nq;
+          size = frame.size ∙ F.size;
+          out = λ j lj. frame.out j (omega (arith, F.size)) ∙ F.out j lj;
+          others = λ p q lp lq np nq. without G (state st₁.store (filling_at s k)) s k st₂.store put p q (omega (arith, F.size)) (omega (arith, F.size)) np nq ∙ F.others p q lp lq np nq;
           filling = at;
           within = omega arith;
           keeps = λ t M.

@@ -1,6 +1,5 @@
 -- A request is answered as the tally says, and leaves the book ready for the next.
 use Rattle.std.proofs.Common.{◌≡◌, ℕ, ◌*◌, ◌<◌, true, false, is_ok, Some, None, Ok, Err, Option, Result, sym, refl, ap, ◌∙◌, subst, ap₂, arith}
-use Rattle.std.proofs.lemmas.Bool.Decides.{nat_tests}
 use Rattle.kinds.specs.Group.{Group}
 use Rattle.recovery.specs.Recovery.{RecoveredFrom}
 use Rattle.code.specs.Rules.{Codeword}
@@ -14,7 +13,7 @@ use Rattle.audit.proofs.First.{first_none, first_cong}
 use Rattle.state.specs.Calls.{read_answer, write_answer, lose_answer, Wrote}
 use Rattle.state.specs.States.{State, state, size_of, absent, seen}
 use Rattle.state.specs.declared.records.Filling.{Filling}
-use Rattle.state.proofs.Fillings.{did, left_alone}
+use Rattle.state.proofs.Fillings.{did, left_alone, lose_fine}
 use Rattle.orders.specs.declared.lines.Reply.TheVariants as reply
 use Rattle.serve.specs.Matches.{Matches}
 use Rattle.serve.specs.Refusals.{by_refusal}
@@ -64,9 +63,6 @@ module _ {B : Type 0} (G : Group B) (t : Tally B) (st : State B) (len : ℕ) (R 
       (record { matched = keep_write G t st st' a b x R.matched p.1 p.0.first p.0.second W; idle = W.filling ∙ R.idle; long = omega (arith, R.long, ap (λ k. 8 * k) W.size) }, W.size))
       (λ f bad. left_alone r (Wrote G st a b x st') (st' ≡ st) (ap is_ok bad) h)
 
-  lose_fine : (s : ℕ) → lose_answer st s ≡ Ok tt → absent st s ≡ false
-  lose_fine s e = let h : is_ok (lose_answer st s) ≡ true = ap is_ok e in grind (arith, nat_tests)
-
   pub performed_lose : (s : ℕ) (m' : Meaning B) (f' : Option Filling) (r : Result (Unit {0}) Fault) → r ≡ lose_answer st s → After r (Remarked st.store s true m') (m' ≡ st.store) → f' ≡ st.filling
       → Performed G t st len (Ok (Lose s)) (done_reply r) (state m' f')
   performed_lose s m' f' r e h ef =
@@ -74,7 +70,7 @@ module _ {B : Type 0} (G : Group B) (t : Tally B) (st : State B) (len : ℕ) (R 
       (λ ok.
       let K : Remarked st.store s true m' = did r (Remarked st.store s true m') (m' ≡ st.store) (ap is_ok ok) h in (
         record {
-          matched = subst (λ f. Matches G (leaves (size_of st) t (Lose s)) (state m' f)) (sym ef) (keep_lose G t st.store m' s st.filling R.matched (lose_fine s (sym e ∙ ok)) K);
+          matched = subst (λ f. Matches G (leaves (size_of st) t (Lose s)) (state m' f)) (sym ef) (keep_lose G t st.store m' s st.filling R.matched (lose_fine st s (sym e ∙ ok)) K);
           idle = ef ∙ R.idle;
           long = omega (arith, R.long, ap (λ k. 8 * k) K.size);
         },

@@ -1,43 +1,19 @@
 -- A station that is fitted, filled with every partner and finished stands again.
-use Rattle.std.proofs.Common.{◌≡◌, ℕ, ◌*◌, ◌<◌, ◌≤◌, true, false, cond, ◌||◌, eqb, ltb, is_ok, Some, None, Ok, Option, sym, refl, ap, ◌∙◌, subst, ap₂, inl, inr, arith}
-use Rattle.std.proofs.lemmas.Bool.{cases_eq, both_ways, eq-eqb, ne_eqb, or_right, cond-true}
-use Rattle.std.proofs.lemmas.Bool.Decides.{nat_tests}
+use Rattle.std.proofs.Common.{◌≡◌, ℕ, ◌*◌, ◌<◌, ◌≤◌, true, false, cond, ◌||◌, eqb, ltb, None, Ok, sym, refl, ap, ◌∙◌, subst, ap₂, inl, inr, arith}
+use Rattle.std.proofs.lemmas.Bool.{cases_eq, eq-eqb, ne_eqb, or_right, cond-true}
 use Rattle.kinds.specs.Group.{Group}
 use Rattle.code.specs.Rebuilt.{absentees}
 use Rattle.code.specs.Rules.{of}
 use Rattle.code.proofs.Absent.{absentees_cong}
 use Rattle.store.specs.Meaning.{Remarked}
-use Rattle.state.specs.Calls.{fit_answer, finish_answer, none_filled, too_many}
+use Rattle.state.specs.Calls.{finish_answer}
 use Rattle.state.specs.Fillings.{next_of}
 use Rattle.state.specs.States.{State, state, size_of, absent, being_filled, filling_at, SoundAt}
-use Rattle.state.specs.declared.records.Filling.{Filling}
+use Rattle.state.proofs.Fillings.{Fits}
 use Rattle.serve.specs.Matches.{Matches}
+use Rattle.serve.specs.Tally.{with_filling, restored}
 use Rattle.serve.proofs.Keeps.{keep_fit, keep_finish}
-use Rattle.transcript.specs.Replaces.{CanFillUp, FilledTo, Replaced, with_filling, restored}
-
--- what a fit that is accepted has: the station is out, none is being filled, and at most two are absent
-pub record Fits {B : Type 0} (st : State B) (s : ℕ) : Type 0 where
-  pub station : s < size_of st
-  pub out : st.store.out s ≡ true
-  pub idle : st.filling ≡ None
-  pub few : too_many st ≡ false
-
-pub fits : {B : Type 0} (st : State B) (s : ℕ) → fit_answer st s ≡ Ok tt → Fits st s
-fits st s e = record { station = grind (arith, nat_tests, ok); out = grind (arith, nat_tests, ok); idle = idle_of st.filling last; few = few_of st.filling last }
-  where
-    ok : is_ok (fit_answer st s) ≡ true
-    ok = ap is_ok e
-
-    last : is_ok (none_filled st st.filling) ≡ true
-    last = grind (arith, nat_tests, ok)
-
-    idle_of : (f : Option Filling) → is_ok (none_filled st f) ≡ true → f ≡ None
-    idle_of None h = refl
-    idle_of (Some u) h = absurd (both_ways false refl h)
-
-    few_of : (f : Option Filling) → is_ok (none_filled st f) ≡ true → too_many st ≡ false
-    few_of None h = grind (arith, nat_tests, h)
-    few_of (Some u) h = absurd (both_ways false refl h)
+use Rattle.transcript.specs.Replaces.{CanFillUp, FilledTo, Replaced}
 
 module _ {B : Type 0} (st st₁ : State B) (s : ℕ) (fit : Fits st s) (R : Remarked st.store s false st₁.store) (begun : st₁.filling ≡ filling_at s 0) where
   out_there : st₁.store.out s ≡ false

@@ -1,28 +1,19 @@
 -- Replacing a station: it is fitted, filled until the ticket is full, and finished.
-use Rattle.std.specs.Prelude.{◌≡◌, ℕ, ◌*◌, ◌<◌, ◌≤◌, false, cond, ◌≢◌, None, Ok, Err, Option, Result, nat_lt}
+use Rattle.std.specs.Prelude.{◌≡◌, ℕ, ◌*◌, ◌<◌, ◌≤◌, false, cond, ◌≢◌, None, Ok, Err, Result, nat_lt}
 use Rattle.kinds.specs.Group.{Group}
 use Rattle.code.specs.Rules.{of}
 use Rattle.faults.specs.declared.faults.Fault.{Fault}
 use Rattle.faults.specs.declared.faults.Fault.TheVariants.{AreaTooShort}
 use Rattle.state.specs.Calls.{fit_answer, too_many}
 use Rattle.state.specs.States.{State, size_of, filling_at, Sound}
-use Rattle.state.specs.declared.records.Filling.{Filling}
 use Rattle.book.specs.declared.tickets.TicketOf.{TicketOf}
 use Rattle.serve.specs.Matches.{Matches}
 use Rattle.code.specs.Marks.{turned}
-use Rattle.serve.specs.Tally.{Tally}
+use Rattle.serve.specs.Tally.{Tally, with_filling, restored}
 
 -- may s be replaced? The work area is looked at first, and then what fit looks at
 abbrev pub replace_answer : {B : Type 0} → State B → ℕ → ℕ → Result (Unit {0}) Fault
 replace_answer st len s = cond (nat_lt len (8 * size_of st)) (Err (AreaTooShort len)) (fit_answer st s)
-
--- a tally with another filling
-abbrev pub with_filling : {B : Type 0} → Tally B → Option Filling → Tally B
-with_filling t f = record { absent = t.absent; filling = f; last = t.last }
-
--- a tally with s standing and no filling
-abbrev pub restored : {B : Type 0} → Tally B → ℕ → Tally B
-restored t s = record { absent = turned t.absent s false; filling = None; last = t.last }
 
 -- the filling of s can go on to its end: it has just begun, at most two stations are absent, and the work area is full
 pub record CanFillUp {B : Type 0} (st : State B) (s len : ℕ) : Type 0 where

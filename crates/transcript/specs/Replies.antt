@@ -8,9 +8,8 @@ use Rattle.faults.specs.declared.faults.Fault.TheVariants.{NoSuchStation, Alread
 use Rattle.orders.specs.declared.lines.Reply.{Reply}
 use Rattle.orders.specs.declared.lines.Reply.TheVariants as reply
 use Rattle.serve.specs.Refusals.{unless_many, data_refusal, by_refusal}
-use Rattle.serve.specs.Tally.{Tally, written, lost}
+use Rattle.serve.specs.Tally.{Tally, written, lost, restored}
 use Rattle.store.specs.Meaning.{first}
-use Rattle.transcript.specs.Replaces.{restored}
 use Rattle.transcript.specs.declared.requests.Request.{Request}
 use Rattle.transcript.specs.declared.requests.Request.TheVariants.{Read, Write, Lose, Replace, Audit}
 use Rattle.transcript.specs.declared.requests.Step.{Step}

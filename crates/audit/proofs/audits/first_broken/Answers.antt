@@ -4,7 +4,8 @@ use Rattle.kinds.specs.Group.{sum_to}
 use Rattle.code.specs.Rules.{of, neighbourhood, diagonal}
 use Rattle.code.proofs.Steps.{sum_more, sum_skip}
 use Rattle.code.proofs.Rows.{of_le}
-use Rattle.code.proofs.Diagonals.{share, mate, mate_below, diagonal_shares}
+use Rattle.code.proofs.Diagonals.{share, diagonal_shares}
+use Rattle.code.proofs.Walk.{mate, mate_below}
 use Rattle.store.proofs.Gets.{got}
 use Rattle.audit.proofs.audits.first_broken.Goals as goal
 use Rattle.audit.proofs.audits.first_broken.Goals.{then-b-a, else-b-a}

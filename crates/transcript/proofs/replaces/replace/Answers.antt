@@ -5,8 +5,9 @@ use Rattle.faults.specs.declared.faults.Fault.TheVariants.{AreaTooShort}
 use Rattle.store.specs.Meaning.{Remarked}
 use Rattle.state.specs.Calls.{fit_answer}
 use Rattle.state.specs.States.{State, size_of, filling_at}
+use Rattle.state.proofs.Fillings.{fits}
 use Rattle.transcript.specs.Replaces.{CanFillUp}
-use Rattle.transcript.proofs.Replaced.{fits, can_fill, can_finish, stands}
+use Rattle.transcript.proofs.Replaced.{can_fill, can_finish, stands}
 use Rattle.transcript.proofs.replaces.replace.Goals as goal
 
 -- what a work area of len blocks is admitted by, for n stations
