@@ -74,8 +74,6 @@ fn read_front(left: &[u8], at: usize) -> Result<Record<'_>, Fault>
 pub fn read_record(input: &[u8], at: usize) -> Result<Record<'_>, Fault>
     ensures { read_as result ≡ record_answer input.now at }
 {
-    match input.get(at..) {
-        Some(left) => read_front(left, at),
-        None => Err(Fault::CutShort(at)),
-    }
+    let left = input.get(at..).ok_or(Fault::CutShort(at))?;
+    read_front(left, at)
 }
