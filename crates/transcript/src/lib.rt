@@ -10,4 +10,4 @@ mod texts;
 
 pub use replaces::replace;
 pub use requests::{Request, Step};
-pub use sessions::transcribe;
+pub use sessions::{LIMIT, transcribe};
