@@ -16,10 +16,11 @@ use store::{ReadStore, WriteStore};
 fn done<B>(answer: Result<(), Fault>) -> Result<Reply<B>, Fault>
     ensures { replied result ≡ done_reply answer }
 {
-    answer?;
-    Ok(Reply::Done)
+    answer.map(|()| Reply::Done)
 }
 
+// The book and the work area travel side by side. A struct that lends them would owe, in each method, a clause for each of
+// the two that it still lends the same one.
 fn read_pair<S: WriteStore>(
     book: &Book<S>,
     a: u8,

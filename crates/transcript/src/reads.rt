@@ -15,7 +15,7 @@ use std::alloc::{AllocError, Global};
 fn request_of(read: Record<'_>) -> Result<Request<Block>, Fault>
     ensures { result ≡ request_as (read_as (Ok read.entry)) }
 {
-    Ok(Request::from(read.order?))
+    read.order.map(|order| Request::from(order))
 }
 
 // The requests of the records of an input from an offset on, with a fault for each record that is no order. After one that
