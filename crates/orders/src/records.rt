@@ -4,25 +4,26 @@ ghost use Rattle.orders.specs.Records.{order_answer, front_answer, record_answer
 
 use faults::Fault;
 
-// What a record asks for. The bytes to be written stay a part of the input.
+// What is asked for, with a block for each write.
 #[derive(Clone, Copy, Debug, PartialEq, Eq)]
-pub enum Order<'a> {
+pub enum Order<B> {
     Read { a: u8, b: u8 },
-    Write { a: u8, b: u8, bytes: &'a [u8] },
+    Write { a: u8, b: u8, block: B },
     Lose { station: u8 },
     Replace { station: u8 },
     Audit,
 }
 
-// A record that was read: what it asks for, or why it asks for nothing, and its length in bytes.
+// A record that was read: what it asks for, or why it asks for nothing, and its length in bytes. The bytes of a block stay a
+// part of the input.
 #[derive(Clone, Copy, Debug, PartialEq, Eq)]
 pub struct Record<'a> {
-    pub order: Result<Order<'a>, Fault>,
+    pub order: Result<Order<&'a [u8]>, Fault>,
     pub len: usize,
 }
 
 // The order of a record's letter and fields, where the record begins at an offset. Refused by 17 r, then by 18 r.
-fn read_order(body: &[u8], at: usize) -> Result<Order<'_>, Fault>
+fn read_order(body: &[u8], at: usize) -> Result<Order<&[u8]>, Fault>
     requires { at + 3 < 2 ^ 64 }
     ensures { ordered result ≡ order_answer body.now at }
 {
@@ -31,7 +32,7 @@ fn read_order(body: &[u8], at: usize) -> Result<Order<'_>, Fault>
         [b'W', a, b, bytes @ ..] if bytes.len() == 64 => Ok(Order::Write {
             a: *a,
             b: *b,
-            bytes,
+            block: bytes,
         }),
         [b'L', station] => Ok(Order::Lose { station: *station }),
         [b'P', station] => Ok(Order::Replace { station: *station }),

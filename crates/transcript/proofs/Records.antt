@@ -2,8 +2,9 @@
 use Rattle.std.proofs.Common.{◌≡◌, ℕ, ◌+◌, ◌-◌, ◌<◌, ◌≤◌, List, length, drop, Ok, Err, Result, sym, refl, subst, arith, length-drop}
 use Rattle.std.proofs.lemmas.Bool.Decides.{nat_tests}
 use Rattle.faults.specs.declared.faults.Fault.{Fault}
+use Rattle.orders.specs.declared.records.Order.{Order}
 use Rattle.transcript.specs.Sessions.{next_at}
-use Rattle.orders.specs.Records.{Asked, Outcome, takes, passes, ends, after_order, front_answer, record_answer}
+use Rattle.orders.specs.Records.{Outcome, takes, passes, ends, after_order, front_answer, record_answer}
 
 -- one byte at least, and no more than there are
 pub Within : ℕ → Outcome → Type 0
@@ -11,7 +12,7 @@ Within n (takes order len) = (0 < len) × (len ≤ n)
 Within n (passes fault len) = (0 < len) × (len ≤ n)
 Within n (ends fault) = Unit {0}
 
-order_within : (n len : ℕ) (r : Result Asked Fault) → 0 < len → len ≤ n → Within n (after_order r len)
+order_within : (n len : ℕ) (r : Result (Order (List ℕ)) Fault) → 0 < len → len ≤ n → Within n (after_order r len)
 unfolding Within
 order_within n len (Ok order) p q = (p, q)
 order_within n len (Err fault) p q = (p, q)
@@ -20,19 +21,19 @@ front_within : (bs : List ℕ) (at : ℕ) → Within (length bs) (front_answer b
 unfolding Within
 front_within bs at = grind (arith, nat_tests, order_within)
 
-order_in : (n len : ℕ) (r : Result Asked Fault) → Within n (after_order r len) → (0 < len) × (len ≤ n)
+order_in : (n len : ℕ) (r : Result (Order (List ℕ)) Fault) → Within n (after_order r len) → (0 < len) × (len ≤ n)
 unfolding Within
 order_in n len (Ok order) w = w
 order_in n len (Err fault) w = w
 
 -- of the record at an offset
-pub record_within : (input : List ℕ) (at len : ℕ) (r : Result Asked Fault) → after_order r len ≡ record_answer input at → (0 < len) × (at + len ≤ length input)
+pub record_within : (input : List ℕ) (at len : ℕ) (r : Result (Order (List ℕ)) Fault) → after_order r len ≡ record_answer input at → (0 < len) × (at + len ≤ length input)
 record_within input at len r e =
     let w = order_in (length (drop at input)) len r (subst (Within (length (drop at input))) (sym e) (front_within (drop at input) at)) in
     (w.0, omega (arith, w.0, w.1, length-drop at input))
 
 -- where the next one begins
-pub next_after : (input : List ℕ) (at len : ℕ) (r : Result Asked Fault) → next_at input at (after_order r len) ≡ at + len
+pub next_after : (input : List ℕ) (at len : ℕ) (r : Result (Order (List ℕ)) Fault) → next_at input at (after_order r len) ≡ at + len
 next_after input at len (Ok order) = refl
 next_after input at len (Err fault) = refl
 
