@@ -23,23 +23,21 @@ with_block f Audit = Audit
 abbrev pub asked : Order (Bor (List ℕ)) → Order (List ℕ)
 asked order = with_block (λ bytes. bytes.now) order
 
--- what is read of a record: an order, or a fault; and the record's length, where more is read after it
-pub data Outcome : Type 0 where
-  takes : Order (List ℕ) → ℕ → Outcome
-  passes : Fault → ℕ → Outcome
-  ends : Fault → Outcome
-
-abbrev pub after_order : Result (Order (List ℕ)) Fault → ℕ → Outcome
-after_order (Ok order) n = takes order n
-after_order (Err fault) n = passes fault n
-
 abbrev pub ordered : Result (Order (Bor (List ℕ))) Fault → Result (Order (List ℕ)) Fault
 ordered (Ok order) = Ok (asked order)
 ordered (Err fault) = Err fault
 
-abbrev pub read_as : Result Record Fault → Outcome
-read_as (Ok read) = after_order (ordered read.order) read.len
-read_as (Err fault) = ends fault
+-- what is read of a record: an order, or why it is none; and the record's length. A fault in its place is the last
+pub record Reading : Type 0 where
+  pub order : Result (Order (List ℕ)) Fault
+  pub len : ℕ
+
+abbrev pub reading : Result (Order (List ℕ)) Fault → ℕ → Reading
+reading order len = record { order = order; len = len }
+
+abbrev pub read_as : Result Record Fault → Result Reading Fault
+read_as (Ok read) = Ok (reading (ordered read.order) read.len)
+read_as (Err fault) = Err fault
 
 -- an order of a letter, if the letter and the fields have n bytes
 abbrev pub of_length : List ℕ → ℕ → ℕ → Order (List ℕ) → Result (Order (List ℕ)) Fault
@@ -59,15 +57,15 @@ abbrev pub record_length : List ℕ → ℕ
 record_length bs = slice_index bs 1 * 256 + slice_index bs 2
 
 -- of the bytes from the record on: three bytes, the version, a length of 0, all there, and then the letter and its length
-abbrev pub front_answer : List ℕ → ℕ → Outcome
+abbrev pub front_answer : List ℕ → ℕ → Result Reading Fault
 front_answer bs at =
-    cond (nat_lt (length bs) 3) (ends (CutShort at))
+    cond (nat_lt (length bs) 3) (Err (CutShort at))
     (cond (slice_index bs 0 == 1)
-    (cond (record_length bs == 0) (passes (WrongRecordLength (at + 1)) 3)
-    (cond (nat_lt (length bs) (3 + record_length bs)) (ends (CutShort at))
-    (after_order (order_answer (take (record_length bs) (drop 3 bs)) at) (3 + record_length bs))))
-    (ends (WrongVersion at)))
+    (cond (record_length bs == 0) (Ok (reading (Err (WrongRecordLength (at + 1))) 3))
+    (cond (nat_lt (length bs) (3 + record_length bs)) (Err (CutShort at))
+    (Ok (reading (order_answer (take (record_length bs) (drop 3 bs)) at) (3 + record_length bs)))))
+    (Err (WrongVersion at)))
 
 -- the record at an offset of the input
-abbrev pub record_answer : List ℕ → ℕ → Outcome
+abbrev pub record_answer : List ℕ → ℕ → Result Reading Fault
 record_answer input at = front_answer (drop at input) at

@@ -4,7 +4,7 @@ ghost use Rattle.orders.specs.Records.{order_answer, front_answer, record_answer
 
 use faults::Fault;
 
-// What is asked for, with a block for each write.
+// What a record asks for. The block of a write is a part of the input first, and then one of the kind of a store.
 #[derive(Clone, Copy, Debug, PartialEq, Eq)]
 pub enum Order<B> {
     Read { a: u8, b: u8 },
@@ -14,8 +14,7 @@ pub enum Order<B> {
     Audit,
 }
 
-// A record that was read: what it asks for, or why it asks for nothing, and its length in bytes. The bytes of a block stay a
-// part of the input.
+// A record that was read: what it asks for, or why it asks for nothing, and its length in bytes.
 #[derive(Clone, Copy, Debug, PartialEq, Eq)]
 pub struct Record<'a> {
     pub order: Result<Order<&'a [u8]>, Fault>,

@@ -7,7 +7,7 @@ use Rattle.orders.specs.Records.{ordered}
 use Rattle.transcript.specs.Reads.{requests_left}
 use Rattle.transcript.specs.declared.reads.Requests.{Requests}
 use Rattle.orders.specs.declared.records.Order.{Order}
-use Rattle.transcript.proofs.Records.{record_within, next_after}
+use Rattle.transcript.proofs.Records.{record_within}
 use Rattle.transcript.proofs.ReadOn.{from_next}
 use Rattle.transcript.proofs.reads.RequestsIterator.next.Goals as goal
 
@@ -22,7 +22,7 @@ overflow_add-self c =
     omega (arith, record_within r.input.now r.at c.in-Ok.record.len (ordered c.in-Ok.record.order) c.in-Ok.ensures)
 
 pub returns-in-Ok-clause-steps : goal.returns-in-Ok-clause-steps
-returns-in-Ok-clause-steps c = from_next _ _ _ _ c.if-self.false (rw (c.request_in.ensures, c.in-Ok.ensures)) (rw (← c.in-Ok.ensures, next_after))
+returns-in-Ok-clause-steps c = from_next _ _ _ _ c.if-self.false (rw (c.request_in.ensures, ← c.in-Ok.ensures)) (rw (← c.in-Ok.ensures))
 
 pub returns-in-Ok-clause-goes : goal.returns-in-Ok-clause-goes
 returns-in-Ok-clause-goes c = goes _ _ _ (returns-in-Ok-clause-steps c)
