@@ -1,6 +1,5 @@
 // Lines of output: what is answered to an order, as text.
-ghost use Rattle.std.specs.Prelude.{◌≡◌, ◌<◌, length, is_ok, if◌then◌else◌};
-ghost use Rattle.arrayvec.specs.ArrayString.{array_string_len};
+ghost use Rattle.std.specs.Prelude.{◌≡◌, length, is_ok, if◌then◌else◌};
 ghost use Rattle.orders.specs.Lines.{laid, block_text, reply_text, line, line_answer};
 ghost use Rattle.audit.specs.Audits.{verdict_text};
 ghost use Rattle.faults.specs.Refusals.{refusal_text};
@@ -27,14 +26,15 @@ pub enum Reply<B> {
 // The length of the longest line: that of a block, with its line end.
 pub const LONGEST: usize = 135;
 
-// A line as it grows, in fixed memory. It is written by no `write!`: no contract says that a `Display` comes to its end, and a
-// line in an area that is long enough is not refused.
-type Line = ArrayString<LONGEST>;
+// The length of the longest line without its end.
+const TEXT: usize = LONGEST - 1;
 
-// These lines have no end yet, and room for it.
+// A line without its end, as it grows in fixed memory. It is written by no `write!`: no contract says that a `Display` comes
+// to its end, and a line in an area that is long enough is not refused.
+type Line = ArrayString<TEXT>;
+
 fn block_line(block: Block) -> Line
     ensures text { result.bytes ≡ block_text block }
-    ensures short { array_string_len result < 135 }
 {
     let mut line = Line::new();
     line.push_str("block ");
@@ -44,7 +44,6 @@ fn block_line(block: Block) -> Line
 
 fn verdict_line(verdict: Verdict) -> Line
     ensures text { result.bytes ≡ verdict_text verdict }
-    ensures short { array_string_len result < 135 }
 {
     let mut line = Line::new();
     match verdict {
@@ -63,7 +62,6 @@ fn verdict_line(verdict: Verdict) -> Line
 
 fn refusal_line(fault: Fault) -> Line
     ensures text { result.bytes ≡ refusal_text fault }
-    ensures short { array_string_len result < 135 }
 {
     let mut line = Line::new();
     line.push_str("no ");
@@ -75,10 +73,8 @@ fn refusal_line(fault: Fault) -> Line
     line
 }
 
-// Likewise of any reply.
 fn reply_line(reply: Reply<Block>) -> Line
     ensures text { result.bytes ≡ reply_text reply }
-    ensures short { array_string_len result < 135 }
 {
     match reply {
         Reply::Block(block) => block_line(block),
@@ -97,8 +93,9 @@ pub fn lay_line(reply: &Reply<Block>, into: &mut [u8]) -> Result<usize, Fault>
     if into.len() < LONGEST {
         return Err(Fault::AreaTooShort(into.len()));
     }
-    let mut line = reply_line(*reply);
-    line.push('\n');
-    into[..line.len()].copy_from_slice(line.as_bytes());
-    Ok(line.len())
+    let line = reply_line(*reply);
+    let len = line.len();
+    into[..len].copy_from_slice(line.as_bytes());
+    into[len] = b'\n';
+    Ok(len + 1)
 }

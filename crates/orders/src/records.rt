@@ -4,11 +4,11 @@ ghost use Rattle.orders.specs.Records.{order_answer, front_answer, record_answer
 
 use faults::Fault;
 
-// What a record asks for. The bytes to be written stay a part of the input.
+// What a record asks for. The block of a write is a part of the input first, and then one of the kind of a store.
 #[derive(Clone, Copy, Debug, PartialEq, Eq)]
-pub enum Order<'a> {
+pub enum Order<B> {
     Read { a: u8, b: u8 },
-    Write { a: u8, b: u8, bytes: &'a [u8] },
+    Write { a: u8, b: u8, block: B },
     Lose { station: u8 },
     Replace { station: u8 },
     Audit,
@@ -17,12 +17,12 @@ pub enum Order<'a> {
 // A record that was read: what it asks for, or why it asks for nothing, and its length in bytes.
 #[derive(Clone, Copy, Debug, PartialEq, Eq)]
 pub struct Record<'a> {
-    pub order: Result<Order<'a>, Fault>,
+    pub order: Result<Order<&'a [u8]>, Fault>,
     pub len: usize,
 }
 
 // The order of a record's letter and fields, where the record begins at an offset. Refused by 17 r, then by 18 r.
-fn read_order(body: &[u8], at: usize) -> Result<Order<'_>, Fault>
+fn read_order(body: &[u8], at: usize) -> Result<Order<&[u8]>, Fault>
     requires { at + 3 < 2 ^ 64 }
     ensures { ordered result ≡ order_answer body.now at }
 {
@@ -31,7 +31,7 @@ fn read_order(body: &[u8], at: usize) -> Result<Order<'_>, Fault>
         [b'W', a, b, bytes @ ..] if bytes.len() == 64 => Ok(Order::Write {
             a: *a,
             b: *b,
-            bytes,
+            block: bytes,
         }),
         [b'L', station] => Ok(Order::Lose { station: *station }),
         [b'P', station] => Ok(Order::Replace { station: *station }),
@@ -74,8 +74,6 @@ fn read_front(left: &[u8], at: usize) -> Result<Record<'_>, Fault>
 pub fn read_record(input: &[u8], at: usize) -> Result<Record<'_>, Fault>
     ensures { read_as result ≡ record_answer input.now at }
 {
-    match input.get(at..) {
-        Some(left) => read_front(left, at),
-        None => Err(Fault::CutShort(at)),
-    }
+    let left = input.get(at..).ok_or(Fault::CutShort(at))?;
+    read_front(left, at)
 }

@@ -3,12 +3,12 @@
 
 use std::io::{Read, Write};
 
-// One byte more than a session may have.
-const LIMIT: u64 = 16_385;
-
+// Reads one byte more than a session may have, so that one that is too long is seen.
 fn run(rt: &HostRuntime) -> anyhow::Result<()> {
     let mut input = Vec::new(rt.alloc());
-    rt.stdin().take(LIMIT).read_to_end(&mut input)?;
+    rt.stdin()
+        .take(transcript::LIMIT as u64 + 1)
+        .read_to_end(&mut input)?;
     let text = transcript::transcribe(rt.alloc(), input.as_slice())?;
     rt.stdout().write_all(text.as_slice())?;
     Ok(())

@@ -13,7 +13,7 @@ use Rattle.serve.proofs.Refused.{outcome}
 use Rattle.transcript.specs.Performs.{Ready}
 use Rattle.transcript.specs.Replaces.{replace_answer}
 use Rattle.transcript.specs.Replies.{refusal}
-use Rattle.transcript.specs.declared.requests.Request.TheVariants.{Read, Write, Lose, Replace}
+use Rattle.orders.specs.declared.records.Order.TheVariants.{Read, Write, Lose, Replace}
 
 module _ {B : Type 0} (G : Group B) (t : Tally B) (st : State B) (len : ℕ) (R : Ready G t st len) where
   abbrev n : ℕ

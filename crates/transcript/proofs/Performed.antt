@@ -25,13 +25,13 @@ use Rattle.serve.proofs.Turned.{write_has, read_has, pair_fine, last_write_read}
 use Rattle.transcript.specs.Performs.{Ready, Performed, done_reply}
 use Rattle.transcript.specs.Replaces.{Replaced, replace_answer}
 use Rattle.transcript.specs.Replies.{refusal, granted, leaves, audit_refusal}
-use Rattle.transcript.specs.declared.requests.Request.{Request}
-use Rattle.transcript.specs.declared.requests.Request.TheVariants.{Read, Write, Lose, Replace, Audit}
+use Rattle.orders.specs.declared.records.Order.{Order}
+use Rattle.orders.specs.declared.records.Order.TheVariants.{Read, Write, Lose, Replace, Audit}
 use Rattle.transcript.proofs.Answered.{read_as, write_as, lose_as, replace_as}
 
 module _ {B : Type 0} (G : Group B) (t : Tally B) (st : State B) (len : ℕ) (R : Ready G t st len) where
   -- a refusal leaves the book as it was
-  pub refused : (q : Request B) (f : Fault) → refusal (size_of st) t q ≡ Some f → Performed G t st len (Ok q) (reply.Refused f) st
+  pub refused : (q : Order B) (f : Fault) → refusal (size_of st) t q ≡ Some f → Performed G t st len (Ok q) (reply.Refused f) st
   refused q f e = record {
     reply = sym (ap (λ o. by_refusal o (granted (size_of st) t q) (λ f. reply.Refused f)) e);
     size = refl;
@@ -39,7 +39,7 @@ module _ {B : Type 0} (G : Group B) (t : Tally B) (st : State B) (len : ℕ) (R 
   }
 
   -- a call that hands out nothing
-  concluded : (q : Request B) (st' : State B) (o : Option Fault) (r : Result (Unit {0}) Fault) → refusal (size_of st) t q ≡ o → r ≡ outcome o → granted (size_of st) t q ≡ reply.Done
+  concluded : (q : Order B) (st' : State B) (o : Option Fault) (r : Result (Unit {0}) Fault) → refusal (size_of st) t q ≡ o → r ≡ outcome o → granted (size_of st) t q ≡ reply.Done
       → (r ≡ Ok tt → Ready G (leaves (size_of st) t q) st' len × (size_of st' ≡ size_of st)) → ((f : Fault) → r ≡ Err f → st' ≡ st)
       → Performed G t st len (Ok q) (done_reply r) st'
   unfolding outcome

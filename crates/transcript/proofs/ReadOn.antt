@@ -5,7 +5,7 @@ use Rattle.faults.specs.declared.faults.Fault.{Fault}
 use Rattle.kinds.specs.declared.blocks.Block.{Block}
 use Rattle.orders.specs.Records.{record_answer}
 use Rattle.transcript.specs.Sessions.{request_as, next_at, requests_from}
-use Rattle.transcript.specs.declared.requests.Request.{Request}
+use Rattle.orders.specs.declared.records.Order.{Order}
 use Rattle.transcript.proofs.Records.{forward}
 
 module _ (input : List ℕ) where
@@ -32,7 +32,7 @@ module _ (input : List ℕ) where
         ∙ sym (from_here k at here)
   ]
 
-  pub from_next : (at next : ℕ) (q : Result (Request Block) Fault) → at < length input → q ≡ request_as (record_answer input at) → next ≡ next_at input at (record_answer input at)
+  pub from_next : (at next : ℕ) (q : Result (Order Block) Fault) → at < length input → q ≡ request_as (record_answer input at) → next ≡ next_at input at (record_answer input at)
       → requests_from (length input) input at ≡ q ∷ requests_from (length input) input next
   from_next at next q l e h =
       let f : at < next_at input at (record_answer input at) = forward input at l in

@@ -8,7 +8,7 @@ use Rattle.state.specs.States.{State, size_of}
 use Rattle.serve.specs.Matches.{Matches}
 use Rattle.serve.specs.Tally.{Tally, at_start}
 use Rattle.transcript.specs.Replies.{reply_to, tally_on, replies, requests_of, replies_of}
-use Rattle.transcript.specs.declared.requests.Request.{Request}
+use Rattle.orders.specs.declared.records.Order.{Order}
 use Rattle.transcript.specs.declared.requests.Step.{Step}
 
 -- what a call that hands out nothing is answered by
@@ -28,13 +28,13 @@ pub record Ready {B : Type 0} (G : Group B) (t : Tally B) (st : State B) (len : 
   pub long : 8 * size_of st ≤ len
 
 -- the reply is what the tally says, and the book is ready for the next request
-pub record Performed {B : Type 0} (G : Group B) (t : Tally B) (st : State B) (len : ℕ) (q : Result (Request B) Fault) (r : Reply B) (st' : State B) : Type 0 where
+pub record Performed {B : Type 0} (G : Group B) (t : Tally B) (st : State B) (len : ℕ) (q : Result (Order B) Fault) (r : Reply B) (st' : State B) : Type 0 where
   pub reply : r ≡ reply_to (size_of st) t q
   pub size : size_of st' ≡ size_of st
   pub ready : Ready G (tally_on (size_of st) t q) st' len
 
 -- whatever tally the book matches
-abbrev pub Performs : {B : Type 0} → Group B → State B → ℕ → Result (Request B) Fault → Reply B → State B → Type 0
+abbrev pub Performs : {B : Type 0} → Group B → State B → ℕ → Result (Order B) Fault → Reply B → State B → Type 0
 Performs {B} G st len q r st' = (t : Tally B) → Ready G t st len → Performed G t st len q r st'
 
 -- the same over a list of requests: each reply stands beside its request

@@ -10,8 +10,8 @@ use Rattle.orders.specs.declared.lines.Reply.TheVariants as reply
 use Rattle.serve.specs.Refusals.{unless_many, data_refusal, by_refusal}
 use Rattle.serve.specs.Tally.{Tally, written, lost, restored}
 use Rattle.store.specs.Meaning.{first}
-use Rattle.transcript.specs.declared.requests.Request.{Request}
-use Rattle.transcript.specs.declared.requests.Request.TheVariants.{Read, Write, Lose, Replace, Audit}
+use Rattle.orders.specs.declared.records.Order.{Order}
+use Rattle.orders.specs.declared.records.Order.TheVariants.{Read, Write, Lose, Replace, Audit}
 use Rattle.transcript.specs.declared.requests.Step.{Step}
 
 module _ {B : Type 0} (n : ℕ) (t : Tally B) where
@@ -21,7 +21,7 @@ module _ {B : Type 0} (n : ℕ) (t : Tally B) where
   audit_refusal (Some s) = Some (AbsentAtAudit s)
 
   -- why a request is refused, if it is
-  abbrev pub refusal : Request B → Option Fault
+  abbrev pub refusal : Order B → Option Fault
   refusal (Read a b) = data_refusal n t a b (unless_many n t (t.absent a || t.absent b))
   refusal (Write a b x) = data_refusal n t a b (unless_many n t true)
   refusal (Lose s) = cond (nat_le n s) (Some (NoSuchStation s)) (cond (t.absent s) (Some (AlreadyAbsent s)) None)
@@ -29,7 +29,7 @@ module _ {B : Type 0} (n : ℕ) (t : Tally B) where
   refusal Audit = audit_refusal (first t.absent n)
 
   -- what one that is accepted is answered: a read the last write to its pair
-  abbrev pub granted : Request B → Reply B
+  abbrev pub granted : Order B → Reply B
   granted (Read a b) = reply.Block (of t.last a b)
   granted (Write a b x) = reply.Done
   granted (Lose s) = reply.Done
@@ -37,7 +37,7 @@ module _ {B : Type 0} (n : ℕ) (t : Tally B) where
   granted Audit = reply.Found Sound
 
   -- and what it leaves
-  abbrev pub leaves : Request B → Tally B
+  abbrev pub leaves : Order B → Tally B
   leaves (Read a b) = t
   leaves (Write a b x) = written t a b x
   leaves (Lose s) = lost t s
@@ -45,21 +45,21 @@ module _ {B : Type 0} (n : ℕ) (t : Tally B) where
   leaves Audit = t
 
 -- a record that is no request is answered by its fault
-abbrev pub reply_to : {B : Type 0} → ℕ → Tally B → Result (Request B) Fault → Reply B
+abbrev pub reply_to : {B : Type 0} → ℕ → Tally B → Result (Order B) Fault → Reply B
 reply_to n t (Ok q) = by_refusal (refusal n t q) (granted n t q) (λ f. reply.Refused f)
 reply_to n t (Err f) = reply.Refused f
 
 -- what is refused changes nothing
-abbrev pub tally_on : {B : Type 0} → ℕ → Tally B → Result (Request B) Fault → Tally B
+abbrev pub tally_on : {B : Type 0} → ℕ → Tally B → Result (Order B) Fault → Tally B
 tally_on n t (Ok q) = by_refusal (refusal n t q) (leaves n t q) (λ _. t)
 tally_on n t (Err f) = t
 
 -- the replies to a list of requests, each by the tally of the accepted ones before it
-abbrev pub replies : {B : Type 0} → ℕ → Tally B → List (Result (Request B) Fault) → List (Reply B)
+abbrev pub replies : {B : Type 0} → ℕ → Tally B → List (Result (Order B) Fault) → List (Reply B)
 replies n t [] = []
 replies n t (q ∷ qs) = reply_to n t q ∷ replies n (tally_on n t q) qs
 
-abbrev pub requests_of : {B : Type 0} → List (Step B) → List (Result (Request B) Fault)
+abbrev pub requests_of : {B : Type 0} → List (Step B) → List (Result (Order B) Fault)
 requests_of steps = map (λ step. step.request) steps
 
 abbrev pub replies_of : {B : Type 0} → List (Step B) → List (Reply B)

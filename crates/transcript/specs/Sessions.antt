@@ -7,42 +7,40 @@ use Rattle.kinds.specs.Parts.{block_at}
 use Rattle.kinds.specs.Bytes.{byte_group}
 use Rattle.kinds.specs.declared.blocks.Block.{Block}
 use Rattle.orders.specs.Lines.{line}
-use Rattle.orders.specs.Records.{Asked, reads, writes, loses, replaces, audits, Outcome, takes, passes, ends, record_answer}
+use Rattle.orders.specs.Records.{with_block, Reading, record_answer}
 use Rattle.orders.specs.declared.lines.Reply.{Reply}
 use Rattle.orders.specs.declared.lines.Reply.TheVariants.{Refused}
 use Rattle.serve.specs.Tally.{at_start}
 use Rattle.transcript.specs.Replies.{replies}
-use Rattle.transcript.specs.declared.requests.Request.{Request}
-use Rattle.transcript.specs.declared.requests.Request.TheVariants.{Read, Write, Lose, Replace, Audit}
+use Rattle.orders.specs.declared.records.Order.{Order}
 
--- an order as a request
-abbrev pub request_of : Asked → Request Block
-request_of (reads a b) = Read a b
-request_of (writes a b bytes) = Write a b (block_at bytes 0)
-request_of (loses s) = Lose s
-request_of (replaces s) = Replace s
-request_of audits = Audit
+-- an order with its block made of the bytes
+abbrev pub request_of : Order (List ℕ) → Order Block
+request_of order = with_block (λ bytes. block_at bytes 0) order
+
+-- where there is one
+abbrev pub requested : Result (Order (List ℕ)) Fault → Result (Order Block) Fault
+requested (Ok order) = Ok (request_of order)
+requested (Err fault) = Err fault
 
 -- what is read of a record
-abbrev pub request_as : Outcome → Result (Request Block) Fault
-request_as (takes order len) = Ok (request_of order)
-request_as (passes fault len) = Err fault
-request_as (ends fault) = Err fault
+abbrev pub request_as : Result Reading Fault → Result (Order Block) Fault
+request_as (Ok read) = requested read.order
+request_as (Err fault) = Err fault
 
 -- where the next record begins: after the last byte if nothing more is read
-abbrev pub next_at : List ℕ → ℕ → Outcome → ℕ
-next_at input at (takes order len) = at + len
-next_at input at (passes fault len) = at + len
-next_at input at (ends fault) = length input
+abbrev pub next_at : List ℕ → ℕ → Result Reading Fault → ℕ
+next_at input at (Ok read) = at + read.len
+next_at input at (Err fault) = length input
 
 -- the requests of the records from an offset on, one after another, k of them at most
-abbrev pub requests_from : ℕ → List ℕ → ℕ → List (Result (Request Block) Fault)
+abbrev pub requests_from : ℕ → List ℕ → ℕ → List (Result (Order Block) Fault)
 requests_from zero input at = []
 requests_from (suc k) input at =
     cond (nat_lt at (length input)) (request_as (record_answer input at) ∷ requests_from k input (next_at input at (record_answer input at))) []
 
 -- there are no more records than bytes
-abbrev pub session_requests : List ℕ → List (Result (Request Block) Fault)
+abbrev pub session_requests : List ℕ → List (Result (Order Block) Fault)
 session_requests input = requests_from (length input) input 1
 
 -- a line for each reply

@@ -9,5 +9,5 @@ pub mod sessions;
 mod texts;
 
 pub use replaces::replace;
-pub use requests::{Request, Step};
-pub use sessions::transcribe;
+pub use requests::Step;
+pub use sessions::{LIMIT, transcribe};

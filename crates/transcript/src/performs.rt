@@ -2,24 +2,25 @@
 ghost use Rattle.std.specs.Prelude.{◌≡◌, ℕ, length, Ok};
 ghost use Rattle.book.specs.Books.{state_of};
 ghost use Rattle.transcript.specs.Performs.{replied, done_reply, Performs, PerformsAll};
-ghost use Rattle.transcript.specs.declared.requests.Request.TheVariants.{Read, Audit};
+ghost use Rattle.orders.specs.declared.records.Order.TheVariants.{Read, Audit};
 
 use crate::replaces::replace;
-use crate::requests::{Request, Step};
+use crate::requests::Step;
 use book::Book;
 use faults::Fault;
 use kinds::BlockKind;
-use orders::Reply;
+use orders::{Order, Reply};
 use store::{ReadStore, WriteStore};
 
 // The reply to a write, a loss or a replacement that is not refused.
 fn done<B>(answer: Result<(), Fault>) -> Result<Reply<B>, Fault>
     ensures { replied result ≡ done_reply answer }
 {
-    answer?;
-    Ok(Reply::Done)
+    answer.map(|()| Reply::Done)
 }
 
+// The book and the work area travel side by side. A struct that lends them would owe, in each method, a clause for each of
+// the two that it still lends the same one.
 fn read_pair<S: WriteStore>(
     book: &Book<S>,
     a: u8,
@@ -43,24 +44,24 @@ fn audit_all<S: WriteStore>(book: &Book<S>) -> Result<Reply<S::Block>, Fault>
 // Makes one request, where the record held one.
 fn perform<S: WriteStore>(
     book: &mut Book<S>,
-    request: Result<Request<S::Block>, Fault>,
+    request: Result<Order<S::Block>, Fault>,
     work: &mut [S::Block],
 ) -> Result<Reply<S::Block>, Fault>
     ensures { Performs S.Block.group (state_of S.means book.old) (length work.old) request (replied result) (state_of S.means book.new) }
 {
     match request? {
-        Request::Read { a, b } => read_pair(book, a, b, work),
-        Request::Write { a, b, block } => done(book.write(a, b, block, work)),
-        Request::Lose { station } => done(book.lose(station)),
-        Request::Replace { station } => done(replace(book, station, work)),
-        Request::Audit => audit_all(book),
+        Order::Read { a, b } => read_pair(book, a, b, work),
+        Order::Write { a, b, block } => done(book.write(a, b, block, work)),
+        Order::Lose { station } => done(book.lose(station)),
+        Order::Replace { station } => done(replace(book, station, work)),
+        Order::Audit => audit_all(book),
     }
 }
 
 // The reply to a request, whether it is refused or not. `unwrap_or_else` was tried here, and the check does not cover it.
 fn reply_to<S: WriteStore>(
     book: &mut Book<S>,
-    request: Result<Request<S::Block>, Fault>,
+    request: Result<Order<S::Block>, Fault>,
     work: &mut [S::Block],
 ) -> Reply<S::Block>
     ensures { Performs S.Block.group (state_of S.means book.old) (length work.old) request result (state_of S.means book.new) }

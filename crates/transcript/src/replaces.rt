@@ -10,7 +10,8 @@ use kinds::BlockKind;
 use recovery::admit_area;
 use store::{ReadStore, WriteStore};
 
-// Fills with one partner after another, until the ticket is full.
+// Fills with one partner after another, until the ticket is full. The book and the work area are two parameters, as where
+// requests are made.
 fn fill_up<S: WriteStore>(
     book: &mut Book<S>,
     mut ticket: OpenTicket,

@@ -6,7 +6,7 @@ use std::process::Abort;
 use std::test::Fail;
 
 // A record of so many bytes, with this order.
-fn asks(len: usize, order: Order<'_>) -> Result<Record<'_>, Fault> {
+fn asks(len: usize, order: Order<&[u8]>) -> Result<Record<'_>, Fault> {
     let order = Ok(order);
     Ok(Record { order, len })
 }
@@ -105,7 +105,7 @@ fn bytes_of_a_write(rt: HostRuntime) -> Result<(), Fail> {
     let order = Order::Write {
         a: 5,
         b: 6,
-        bytes: &bytes,
+        block: &bytes[..],
     };
     assert_eq!(rt; read_record(input.as_slice(), 1), asks(70, order));
     Ok(())

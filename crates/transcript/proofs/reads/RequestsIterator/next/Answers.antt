@@ -6,14 +6,14 @@ use Rattle.kinds.specs.declared.blocks.Block.{Block}
 use Rattle.orders.specs.Records.{ordered}
 use Rattle.transcript.specs.Reads.{requests_left}
 use Rattle.transcript.specs.declared.reads.Requests.{Requests}
-use Rattle.transcript.specs.declared.requests.Request.{Request}
-use Rattle.transcript.proofs.Records.{record_within, next_after}
+use Rattle.orders.specs.declared.records.Order.{Order}
+use Rattle.transcript.proofs.Records.{record_within}
 use Rattle.transcript.proofs.ReadOn.{from_next}
 use Rattle.transcript.proofs.reads.RequestsIterator.next.Goals as goal
 
 -- a call that gives the first of the requests that are left goes on
-goes : (r r' : Requests) (q : Result (Request Block) Fault) → requests_left r ≡ q ∷ requests_left r'
-    → MakesProgress (can_next-default Requests (Result (Request Block) Fault)) (item_count requests_left) r (Some q) r'
+goes : (r r' : Requests) (q : Result (Order Block) Fault) → requests_left r ≡ q ∷ requests_left r'
+    → MakesProgress (can_next-default Requests (Result (Order Block) Fault)) (item_count requests_left) r (Some q) r'
 goes r r' q e = let l = ap length e in record { on = λ fin. (tt, fin, omega (arith, l)); keeps = tt; rests = λ _. tt }
 
 pub overflow_add-self : goal.overflow_add-self
@@ -22,7 +22,7 @@ overflow_add-self c =
     omega (arith, record_within r.input.now r.at c.in-Ok.record.len (ordered c.in-Ok.record.order) c.in-Ok.ensures)
 
 pub returns-in-Ok-clause-steps : goal.returns-in-Ok-clause-steps
-returns-in-Ok-clause-steps c = from_next _ _ _ _ c.if-self.false (rw (c.request_of.ensures, c.in-Ok.ensures)) (rw (← c.in-Ok.ensures, next_after))
+returns-in-Ok-clause-steps c = from_next _ _ _ _ c.if-self.false (rw (c.request_in.ensures, ← c.in-Ok.ensures)) (rw (← c.in-Ok.ensures))
 
 pub returns-in-Ok-clause-goes : goal.returns-in-Ok-clause-goes
 returns-in-Ok-clause-goes c = goes _ _ _ (returns-in-Ok-clause-steps c)
