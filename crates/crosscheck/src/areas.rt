@@ -54,10 +54,10 @@ impl Area for Vec<Block> {
 // An image: version 1, the length of the rest, the size, the marks, and the blocks in place order.
 impl Area for Vec<u8> {
     fn new(heap: Global, n: u8) -> Result<Self, AllocError> {
-        let length = 64 * (u32::from(n) * (u32::from(n) + 1) / 2);
-        let [l0, l1, l2, l3] = (5 + length).to_be_bytes();
+        let length = 64 * count_pairs(n);
+        let [l0, l1, l2, l3] = (5 + length as u32).to_be_bytes();
         let mut bytes = Vec::from_slice(heap, &[1, l0, l1, l2, l3, n, 0, 0, 0, 0])?;
-        bytes.resize(10 + length as usize, 0x5A)?;
+        bytes.resize(10 + length, 0x5A)?;
         Ok(bytes)
     }
 

@@ -1,4 +1,6 @@
 // The sum rules of a size, solved for the check pairs by plain elimination over bits.
+ghost use Rattle.std.specs.Prelude.{◌≤◌};
+
 use kinds::Block;
 use std::alloc::{AllocError, Global};
 use std::ops::Range;
@@ -30,15 +32,16 @@ impl Sum {
 }
 
 // How many pairs so many stations have.
-pub fn count_pairs(stations: u8) -> usize {
+pub fn count_pairs(stations: u8) -> usize
+    ensures { result ≤ 32_640 }
+{
     let n = usize::from(stations);
     n * (n + 1) / 2
 }
 
 // Where a pair stands: after all pairs of smaller stations than its larger one.
 pub fn place_of(a: u8, b: u8) -> usize {
-    let larger = usize::from(a.max(b));
-    larger * (larger + 1) / 2 + usize::from(a.min(b))
+    count_pairs(a.max(b)) + usize::from(a.min(b))
 }
 
 // The pairs of station h with each other one.

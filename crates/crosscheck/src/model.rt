@@ -1,4 +1,6 @@
 // A book told by its accepted calls alone: how each station stands, and the last write to each data pair.
+ghost use Rattle.std.specs.Prelude.{◌<◌, vec_len};
+
 use crate::elimination::{count_pairs, place_of};
 use crate::tickets::{Held, Tickets};
 use audit::Verdict;
@@ -17,10 +19,9 @@ pub enum Standing {
 
 #[derive(Drop)]
 pub struct Model {
-    // the length of `stations`, as a station number
-    n: u8,
     stations: Vec<Standing>,
     written: Vec<Block>,
+    ghost few: { vec_len stations < 256 },
 }
 
 impl Model {
@@ -29,15 +30,12 @@ impl Model {
         let zero = Block::from([0; 64]);
         let stations = vec![in heap; Standing::Stands; usize::from(n)]?;
         let written = vec![in heap; zero; count_pairs(n.saturating_sub(2))]?;
-        Ok(Model {
-            n,
-            stations,
-            written,
-        })
+        Ok(Model { stations, written })
     }
 
+    // How many stations there are.
     pub fn n(&self) -> u8 {
-        self.n
+        self.stations.len() as u8
     }
 
     pub fn written(&self) -> &[Block] {
@@ -46,7 +44,7 @@ impl Model {
 
     // How many blocks a work area must have.
     pub fn full_area(&self) -> usize {
-        8 * usize::from(self.n)
+        8 * self.stations.len()
     }
 
     pub fn standing(&self, s: u8) -> Standing {
@@ -71,17 +69,20 @@ impl Model {
     }
 
     pub fn count_absent(&self) -> u8 {
-        (0..self.n).filter(|s| self.is_absent(*s)).count() as u8
+        self.stations
+            .iter()
+            .filter(|s| **s != Standing::Stands)
+            .count() as u8
     }
 
-    // The station that is being filled.
+    // The station that is being filled. Here and below over station numbers: a place in `stations` would have to be made one.
     pub fn filled(&self) -> Option<u8> {
-        (0..self.n).find(|s| matches!(self.standing(*s), Standing::Filled { .. }))
+        (0..self.n()).find(|s| matches!(self.standing(*s), Standing::Filled { .. }))
     }
 
     // How a station stands that has no partner left.
     fn full(&self) -> Standing {
-        Standing::Filled { next: self.n }
+        Standing::Filled { next: self.n() }
     }
 
     // Whether a station is being filled and has no partner left.
@@ -92,12 +93,12 @@ impl Model {
 
     // A station that is out, the next from s on.
     pub fn out_from(&self, s: u8) -> Option<u8> {
-        (s..self.n).find(|k| self.is_out(*k))
+        (s..self.n()).find(|k| self.is_out(*k))
     }
 
     // The smallest absent station.
     pub fn first_absent(&self) -> Option<u8> {
-        (0..self.n).find(|s| self.is_absent(*s))
+        (0..self.n()).find(|s| self.is_absent(*s))
     }
 
     // What an open is answered.
@@ -117,7 +118,7 @@ impl Model {
     }
 
     fn admit(&self, s: u8) -> Result<(), Fault> {
-        if s < self.n {
+        if s < self.n() {
             Ok(())
         } else {
             Err(Fault::NoSuchStation(s))
@@ -138,7 +139,7 @@ impl Model {
         self.admit(a)?;
         self.admit(b)?;
         let larger = a.max(b);
-        if larger >= self.n.saturating_sub(2) {
+        if larger >= self.n().saturating_sub(2) {
             return Err(Fault::CheckPair(larger));
         }
         Ok(place_of(a, b))
@@ -197,7 +198,7 @@ impl Model {
             return Err(Fault::TicketRefused(s));
         };
         self.few_absent()?;
-        let next = next.saturating_add(1).min(self.n);
+        let next = next.saturating_add(1).min(self.n());
         self.set(s, Standing::Filled { next });
         Ok(())
     }
@@ -215,7 +216,7 @@ impl Model {
 impl Model {
     pub fn replace(&mut self, s: u8) -> Result<(), Fault> {
         self.fit(s)?;
-        for _ in 0..self.n {
+        for _ in 0..self.n() {
             self.fill(s, self.full_area())?;
         }
         self.finish(s)

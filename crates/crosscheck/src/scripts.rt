@@ -7,7 +7,7 @@ use audit::Verdict;
 use book::Book;
 use faults::Fault;
 use kinds::Block;
-use serve::{Answer, Call, Rack, Turn, carry_on, serve};
+use serve::{Call, Rack, Turn, carry_on, serve};
 use std::alloc::{AllocError, Global};
 use store::WriteStore;
 
@@ -110,8 +110,7 @@ impl Bench {
             let call = self.choose(model, steady && k > length / 2);
             let answer = model.answer(call, work.len(), &mut self.tickets);
             wanted.push(Turn { call, answer })?;
-            let answer = Answer::NotMade;
-            turns.push(Turn { call, answer })?;
+            turns.push(Turn::from(call))?;
         }
         Ok(Script {
             turns,

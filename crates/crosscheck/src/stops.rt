@@ -1,54 +1,31 @@
 // Why the comparison stops before its end.
 use std::alloc::AllocError;
-use std::{fmt, io};
+use std::io;
+use thiserror::Error;
 
-// Where the model and the library differ first.
-#[derive(Clone, Copy)]
-pub struct Difference {
-    pub what: &'static str,
-    pub size: u8,
-    // the list of calls, or the place of the pair of stations that are out
-    pub case: usize,
-    // the call, or the place of the pair
-    pub at: usize,
-}
-
-impl fmt::Display for Difference {
-    fn fmt<W: fmt::Write>(&self, f: &mut fmt::Formatter<W>) -> fmt::Result {
-        let Difference {
-            what,
-            size,
-            case,
-            at,
-        } = self;
-        write!(f, "difference: {what}, size {size}, case {case}, at {at}")
-    }
-}
-
-#[derive(Clone, Copy)]
+#[derive(Debug, Drop, Error)]
 pub enum Stop {
-    NoMemory,
-    NoOutput,
-    Differs(Difference),
+    #[error("no memory")]
+    NoMemory(#[from] AllocError),
+    #[error("no output")]
+    NoOutput(#[from] io::Error),
+    // where the model and the library differ first
+    #[error("difference: {what}, size {size}, case {case}, at {at}")]
+    Differs {
+        what: &'static str,
+        size: u8,
+        // the list of calls, or the place of the pair of stations that are out
+        case: usize,
+        // the call, or the place of the pair
+        at: usize,
+    },
 }
 
 pub fn differs(what: &'static str, size: u8, case: usize, at: usize) -> Stop {
-    Stop::Differs(Difference {
+    Stop::Differs {
         what,
         size,
         case,
         at,
-    })
-}
-
-impl From<AllocError> for Stop {
-    fn from(_: AllocError) -> Stop {
-        Stop::NoMemory
-    }
-}
-
-impl From<io::Error> for Stop {
-    fn from(_: io::Error) -> Stop {
-        Stop::NoOutput
     }
 }

@@ -6,6 +6,9 @@ ghost use Rattle.image.specs.Images.{image_check, block_offset};
 use code::{Size, place};
 use faults::Fault;
 
+// The length of the longest image, of 31 stations: ten bytes of header and 496 blocks.
+pub const LONGEST: usize = 10 + 64 * 496;
+
 // Where the block of a pair begins.
 pub(crate) fn offset_of(a: u8, b: u8) -> usize
     ensures { result ≡ block_offset a b }

@@ -6,5 +6,5 @@ mod layout;
 pub mod read_images;
 
 pub use images::Image;
-pub use layout::check_image;
+pub use layout::{LONGEST, check_image};
 pub use read_images::ReadImage;

@@ -1,10 +1,11 @@
 // Inspects a saved image: reads it from standard input and prints what it holds.
 #![tactic(auto)]
 
+use image::LONGEST;
 use std::io::Read;
 
-// One byte more than the longest image has. `take_out` reads one in the same way; a crate for a few lines would be no plainer.
-const LIMIT: u64 = 31_755;
+// One byte more than the longest image has.
+const LIMIT: u64 = LONGEST as u64 + 1;
 
 fn run(rt: &HostRuntime) -> anyhow::Result<()> {
     let mut bytes = Vec::new(rt.alloc());

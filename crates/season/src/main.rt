@@ -126,9 +126,8 @@ fn run(rt: &HostRuntime) -> anyhow::Result<()> {
     kept.add(&swap(0))?;
     kept.add(&swap(4))?;
     kept.add(&end())?;
-    let Ok(audits) = run_parts(&mut lost, &mut kept, heap, &mut [Block::zero(); 56]) else {
-        return Err(anyhow!("no table"));
-    };
+    let audited = run_parts(&mut lost, &mut kept, heap, &mut [Block::zero(); 56]);
+    let audits = audited.map_err(|fault| anyhow!("no table: {fault}"))?;
     println!(rt; "the first book")?;
     tell(rt, lost.turns.as_slice(), audits.first)?;
     println!(rt; "the second book")?;

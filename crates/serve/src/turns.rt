@@ -1,4 +1,6 @@
 // Calls as values, with a place for the answer to each.
+ghost use Rattle.std.specs.Prelude.{◌≡◌};
+
 use faults::Fault;
 
 // The two sorts of tickets.
@@ -38,4 +40,16 @@ pub enum Answer<B> {
 pub struct Turn<B> {
     pub call: Call<B>,
     pub answer: Answer<B>,
+}
+
+// A call with no answer yet.
+impl<B> From<Call<B>> for Turn<B> {
+    ghost use Rattle.serve.specs.declared.turns.Answer.TheVariants.{NotMade};
+
+    ghost from_gives = { λ call turn. (turn.call ≡ call) × (turn.answer ≡ NotMade) };
+
+    fn from(call: Call<B>) -> Self {
+        let answer = Answer::NotMade;
+        Turn { call, answer }
+    }
 }

@@ -2,12 +2,12 @@
 #![tactic(auto)]
 
 use faults::Fault;
-use image::{Image, check_image};
+use image::{Image, LONGEST, check_image};
 use std::io::Read;
 use store::WriteStore;
 
-// One byte more than the longest image has. `inspect` reads one in the same way; a crate for a few lines would be no plainer.
-const LIMIT: u64 = 31_755;
+// One byte more than the longest image has.
+const LIMIT: u64 = LONGEST as u64 + 1;
 
 fn take_out(bytes: &mut [u8], s: u8) -> Result<(), Fault> {
     check_image(bytes)?;

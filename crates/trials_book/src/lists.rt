@@ -1,6 +1,5 @@
 // One long list of calls over a table and over an image of five stations: stations are lost and swapped, up to three
 // absent at a time, and each read gives the last write.
-use crate::plays::turn;
 use audit::Verdict;
 use book::Book;
 use faults::Fault;
@@ -31,14 +30,14 @@ fn write(turns: &mut Vec<Turn<Block>>) -> Result<(), AllocError> {
     let (a, b) = PAIRS[k % 6];
     let block = sample(k);
     let area = AREA;
-    turns.push(turn(Call::Write { a, b, block, area }))?;
+    turns.push(Turn::from(Call::Write { a, b, block, area }))?;
     Ok(())
 }
 
 // Every data pair is read, its stations the other way round.
 fn read_all(turns: &mut Vec<Turn<Block>>) -> Result<(), AllocError> {
     for (b, a) in PAIRS {
-        turns.push(turn(Call::Read { a, b, area: AREA }))?;
+        turns.push(Turn::from(Call::Read { a, b, area: AREA }))?;
     }
     Ok(())
 }
@@ -47,7 +46,7 @@ fn read_all(turns: &mut Vec<Turn<Block>>) -> Result<(), AllocError> {
 fn fill(turns: &mut Vec<Turn<Block>>, station: u8, steps: u8) -> Result<(), AllocError> {
     let area = AREA;
     for _ in 0..steps {
-        turns.push(turn(Call::Fill { station, area }))?;
+        turns.push(Turn::from(Call::Fill { station, area }))?;
         write(turns)?;
     }
     Ok(())
@@ -55,25 +54,25 @@ fn fill(turns: &mut Vec<Turn<Block>>, station: u8, steps: u8) -> Result<(), Allo
 
 // A station that is out is fitted, filled and finished.
 fn swap(turns: &mut Vec<Turn<Block>>, station: u8) -> Result<(), AllocError> {
-    turns.push(turn(Call::Fit { station }))?;
+    turns.push(Turn::from(Call::Fit { station }))?;
     fill(turns, station, 5)?;
-    turns.push(turn(Call::Finish { station }))?;
+    turns.push(Turn::from(Call::Finish { station }))?;
     read_all(turns)
 }
 
 // Station s is lost and swapped; t is lost while s is filled, and u when s is filled up. Then t and u are swapped.
 fn swap_three(turns: &mut Vec<Turn<Block>>, s: u8, t: u8, u: u8) -> Result<(), AllocError> {
-    turns.push(turn(Call::Lose { station: s }))?;
+    turns.push(Turn::from(Call::Lose { station: s }))?;
     write(turns)?;
     read_all(turns)?;
-    turns.push(turn(Call::Fit { station: s }))?;
+    turns.push(Turn::from(Call::Fit { station: s }))?;
     fill(turns, s, 2)?;
-    turns.push(turn(Call::Lose { station: t }))?;
+    turns.push(Turn::from(Call::Lose { station: t }))?;
     write(turns)?;
     read_all(turns)?;
     fill(turns, s, 3)?;
-    turns.push(turn(Call::Lose { station: u }))?;
-    turns.push(turn(Call::Finish { station: s }))?;
+    turns.push(Turn::from(Call::Lose { station: u }))?;
+    turns.push(Turn::from(Call::Finish { station: s }))?;
     read_all(turns)?;
     swap(turns, t)?;
     swap(turns, u)

@@ -2,7 +2,7 @@
 use book::Book;
 use faults::Fault;
 use kinds::BlockKind;
-use serve::{Answer, Call, Rack, Sort, Turn, retire, serve};
+use serve::{Call, Rack, Sort, Turn, retire, serve};
 use std::alloc::Global;
 use std::test::Fail;
 use store::{ReadStore, Table, WriteStore, check_table};
@@ -37,12 +37,6 @@ pub fn abandon(station: u8, sort: Sort) -> Call<bool> {
     Call::Abandon { station, sort }
 }
 
-// The call, with no answer yet.
-pub fn turn<B>(call: Call<B>) -> Turn<B> {
-    let answer = Answer::NotMade;
-    Turn { call, answer }
-}
-
 // Each list is served on the same book, opened anew, with the tickets that the lists before it left. As an array the three do
 // not prove: the check does not follow exclusive slices that are moved out of one.
 fn serve_all<S: WriteStore<Block = bool> + Drop>(
@@ -72,13 +66,13 @@ pub struct Left {
 
 // Station 1 is lost and filled up, and its full ticket is left.
 fn leave_full() -> [Turn<bool>; 7] {
-    let step = turn(fill(1, 40));
-    [turn(lose(1)), turn(fit(1)), step, step, step, step, step]
+    let step = fill(1, 40);
+    [lose(1), fit(1), step, step, step, step, step].map(Turn::from)
 }
 
 // Station 3 is lost and fitted, and its open ticket is left.
 fn leave_open() -> [Turn<bool>; 2] {
-    [turn(lose(3)), turn(fit(3))]
+    [lose(3), fit(3)].map(Turn::from)
 }
 
 // Makes the calls of some lists, one after the other, on a book that was opened, with a full ticket of station 1 and an
@@ -86,7 +80,7 @@ fn leave_open() -> [Turn<bool>; 2] {
 pub fn play(heap: Global, lists: &[&[Call<bool>]]) -> Result<Left, Fail> {
     let mut turns = Vec::new(heap);
     for calls in lists {
-        turns.extend(calls.iter().copied().map(turn))?;
+        turns.extend(calls.iter().copied().map(Turn::from))?;
     }
     let mut full = leave_full();
     let mut open = leave_open();

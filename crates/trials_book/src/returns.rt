@@ -1,7 +1,7 @@
 // Tickets that come back from a book that was opened anew, and what open and audit refuse.
 use crate::tickets::{fill_by, fill_up, finish_by, station};
 use audit::Verdict;
-use book::{Book, Ticket};
+use book::{Book, OpenTicket, Ticket};
 use faults::Fault;
 use kinds::BlockKind;
 use std::process::Abort;
@@ -43,39 +43,29 @@ fn spend<S: WriteStore>(book: &mut Book<S>, ticket: Ticket, fault: Option<Fault>
     Told { station, fault }
 }
 
-// What an open ticket of s is told when the book was opened anew.
-fn tell_open<S: WriteStore>(
-    book: &mut Book<S>,
-    s: u8,
-    work: &mut [S::Block],
-) -> Result<Told, Fail> {
+// An open ticket of s, which is lost before if it stands.
+fn fit<S: WriteStore>(book: &mut Book<S>, s: u8) -> Result<OpenTicket, Fault> {
     let _ = book.lose(s);
-    let open = book.fit(s)?;
-    let _ = book.open();
-    let (ticket, fault) = fill_by(book, Ticket::Open(open), work);
-    Ok(spend(book, ticket, fault))
+    book.fit(s)
 }
 
-// The same of a full ticket.
-fn tell_full<S: WriteStore>(
+// What a ticket is told when its book was opened anew: an open one at a fill, a full one at a finish.
+fn tell<S: WriteStore>(
     book: &mut Book<S>,
-    s: u8,
+    ticket: Ticket,
     work: &mut [S::Block],
 ) -> Result<Told, Fail> {
-    let _ = book.lose(s);
-    let open = book.fit(s)?;
-    let full = fill_up(book, open, work);
     let _ = book.open();
-    match finish_by(book, full) {
+    let (next, at_fill) = fill_by(book, ticket, work);
+    match finish_by(book, next) {
         Ok(()) => Err(Fail::new("not refused")),
-        Err((ticket, fault)) => Ok(spend(book, ticket, fault)),
+        Err((back, at_finish)) => Ok(spend(book, back, at_fill.or(at_finish))),
     }
 }
 
 // What audit answers while s is being filled; s is out then.
 fn audit_filling<S: WriteStore>(book: &mut Book<S>, s: u8) -> Result<Verdict, Fault> {
-    let _ = book.lose(s);
-    let open = book.fit(s)?;
+    let open = fit(book, s)?;
     let answer = book.audit();
     let _ = book.abandon(Ticket::Open(open));
     answer
@@ -92,10 +82,13 @@ fn come_back<S: WriteStore + Drop>(
         station: s,
         fault: Some(Fault::TicketRefused(s)),
     };
-    assert_eq!(rt; tell_open(&mut book, s, work)?, refused);
+    let open = fit(&mut book, s)?;
+    assert_eq!(rt; tell(&mut book, Ticket::Open(open), work)?, refused);
     let audited = audit_filling(&mut book, s);
     assert_eq!(rt; audited, Err(Fault::AbsentAtAudit(s)), "{}", s);
-    assert_eq!(rt; tell_full(&mut book, s, work)?, refused);
+    let open = fit(&mut book, s)?;
+    let full = fill_up(&mut book, open, work);
+    assert_eq!(rt; tell(&mut book, full, work)?, refused);
     Ok(())
 }
 

@@ -1,5 +1,4 @@
 // What recovery and patterns refuse, in which order, and that a refusal changes nothing.
-use crate::areas::all_are;
 use crate::lawful::{FIVE, lawful_row, sample};
 use code::Size;
 use faults::Fault;
@@ -22,7 +21,7 @@ fn refused_by<S: ReadStore<Block = Block>>(
     let mut into = mark;
     assert_eq!(rt; recover(store, a, b, work, &mut into), Err(fault));
     assert_eq!(rt; into, mark);
-    assert!(rt; all_are(work, mark));
+    assert!(rt; work.iter().all(|x| *x == mark));
 }
 
 // That of five stations with 0, 1 and 2 out, with a work area of this length.

@@ -10,7 +10,8 @@ use std::process::Abort;
 use std::test::Fail;
 use store::WriteStore;
 
-// The image that bytes are.
+// The image that bytes are. The trials of the stores have it too; a crate for both would be no plainer, since it would owe a
+// contract for these two lines.
 pub fn image_in(bytes: &mut [u8]) -> Result<Image<'_>, Fault> {
     check_image(bytes)?;
     Ok(Image::make(bytes))

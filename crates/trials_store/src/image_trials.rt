@@ -1,6 +1,7 @@
 // Images of five stations: what a call refuses, and which bytes it changes.
 use crate::calls::{news, put_all, refusals};
-use crate::samples::{PAIRS, blocks_of, image_of, sample_row};
+use crate::samples::{blocks_of, image_of, sample_row};
+use code::pair_at;
 use faults::Fault;
 use image::{Image, ReadImage, check_image};
 use kinds::{Block, BlockKind};
@@ -8,8 +9,8 @@ use std::process::Abort;
 use std::test::Fail;
 use store::{ReadStore, WriteStore};
 
-// The image that bytes are.
-fn image_in(bytes: &mut [u8; 970]) -> Result<Image<'_>, Fault> {
+// The image that bytes are. The trials of recovery have it too, and say why.
+fn image_in(bytes: &mut [u8]) -> Result<Image<'_>, Fault> {
     check_image(bytes)?;
     Ok(Image::make(bytes))
 }
@@ -28,8 +29,9 @@ fn calls_refused(rt: HostRuntime) -> Result<(), Fail> {
 // The bytes after every pair was put: the header stays.
 fn put_bytes(before: &[u8; 970]) -> [u8; 970] {
     let mut bytes = *before;
-    for (slot, (larger, smaller)) in blocks_of(&mut bytes).iter_mut().zip(PAIRS) {
-        *slot = *news(larger, smaller).as_bytes();
+    let pairs = (0..15).filter_map(pair_at);
+    for (slot, pair) in blocks_of(&mut bytes).iter_mut().zip(pairs) {
+        *slot = *news(pair.larger, pair.smaller).as_bytes();
     }
     bytes
 }
@@ -60,8 +62,9 @@ fn put_at_every_pair(rt: HostRuntime) -> Result<(), Fail> {
 // The bytes after station s was taken out: its mark is added, and each of its blocks is filled.
 fn lost_bytes(before: &[u8; 970], s: u8) -> [u8; 970] {
     let mut bytes = *before;
-    for (slot, (larger, smaller)) in blocks_of(&mut bytes).iter_mut().zip(PAIRS) {
-        if larger == s || smaller == s {
+    let pairs = (0..15).filter_map(pair_at);
+    for (slot, pair) in blocks_of(&mut bytes).iter_mut().zip(pairs) {
+        if pair.larger == s || pair.smaller == s {
             *slot = [0xEE; 64];
         }
     }

@@ -1,27 +1,8 @@
 // Blocks of their own, and images of rows of them.
-// The trials of recovery and of the book have such blocks too; a crate of samples for all would be no plainer, since what a
-// crate offers wants contracts.
+// The trials of recovery and of the book have such blocks too; a crate of samples for all would be no plainer, since a function
+// that a crate offers wants a contract.
 use kinds::Block;
 use std::array;
-
-// The pairs of five stations in place order, the larger station first.
-pub const PAIRS: [(u8, u8); 15] = [
-    (0, 0),
-    (1, 0),
-    (1, 1),
-    (2, 0),
-    (2, 1),
-    (2, 2),
-    (3, 0),
-    (3, 1),
-    (3, 2),
-    (3, 3),
-    (4, 0),
-    (4, 1),
-    (4, 2),
-    (4, 3),
-    (4, 4),
-];
 
 // A block of its own for each number below 251.
 pub fn sample(p: usize) -> Block {
