@@ -15,6 +15,7 @@ mod sessions;
 mod stops;
 mod tickets;
 
+use anyhow::anyhow;
 use areas::Area;
 use book::Book;
 use calls::compare_list;
@@ -128,6 +129,16 @@ fn compare_all(rt: &HostRuntime) -> Result<(), Stop> {
     Ok(())
 }
 
+// A difference stands in the output, as what was compared does.
 fn main(rt: HostRuntime) -> anyhow::Result<()> {
-    Ok(compare_all(&rt)?)
+    let Err(stop) = compare_all(&rt) else {
+        return Ok(());
+    };
+    match stop {
+        Stop::Differs { .. } => {
+            println!(rt; "{stop}")?;
+            Err(anyhow!("the library differs from the model"))
+        }
+        Stop::NoMemory(_) | Stop::NoOutput(_) => Err(anyhow!("no memory, or no output")),
+    }
 }
