@@ -46,7 +46,7 @@ with_filling t f = record { absent = t.absent; filling = f; last = t.last }
 abbrev pub restored : {B : Type 0} → Tally B → ℕ → Tally B
 restored t s = record { absent = turned t.absent s false; filling = None; last = t.last }
 
--- one more accepted call, of n stations
+-- one more accepted call, of n stations; a finish ends the filling of s alone, where `restored` says that there is none
 abbrev pub accepted : {B : Type 0} → ℕ → Tally B → Call B → Tally B
 accepted n t (Write a b x area) = written t a b x
 accepted n t (Read a b area) = t

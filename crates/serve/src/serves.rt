@@ -54,6 +54,7 @@ fn make_lose<S: WriteStore>(book: &mut Book<S>, s: u8) -> Result<Answer<S::Block
     Ok(Answer::Accepted)
 }
 
+// Where there is no room or no such ticket the call is not made. Three calls say so, each for its own sort of ticket.
 fn make_fit<S: WriteStore>(
     book: &mut Book<S>,
     s: u8,

@@ -58,7 +58,8 @@ fn perform<S: WriteStore>(
     }
 }
 
-// The reply to a request, whether it is refused or not. `unwrap_or_else` was tried here, and the check does not cover it.
+// The reply to a request, whether it is refused or not. `unwrap_or_else` was tried: the check does not cover a call that is
+// passed a case of an enum over a type parameter.
 fn reply_to<S: WriteStore>(
     book: &mut Book<S>,
     request: Result<Order<S::Block>, Fault>,

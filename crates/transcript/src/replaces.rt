@@ -29,7 +29,8 @@ fn fill_up<S: WriteStore>(
     Err((ticket, fault))
 }
 
-// Abandons a ticket, and passes a refusal on.
+// Abandons a ticket, and passes a refusal on. Where a station was fitted, neither a fill nor the finish is refused: the contracts
+// of the book show it, and a ticket has to be spent there all the same.
 fn give_up<S: WriteStore>(book: &mut Book<S>, ticket: Ticket, fault: Fault) -> Result<(), Fault> {
     let _ = book.abandon(ticket);
     Err(fault)
