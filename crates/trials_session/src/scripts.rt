@@ -8,7 +8,8 @@ use transcript::transcribe;
 // The sizes.
 pub const SIZES: [u8; 10] = [3, 5, 7, 11, 13, 17, 19, 23, 29, 31];
 
-// A record. The 64 bytes of a write are all the same; an order of the library would lend them from elsewhere.
+// A record, in tuples, so that a long table reads at a glance; the library's orders have a name for each field. The 64 bytes of a
+// write are all the same.
 #[derive(Clone, Copy)]
 pub enum Record {
     Read(u8, u8),
