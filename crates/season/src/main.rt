@@ -127,7 +127,7 @@ fn run(rt: &HostRuntime) -> anyhow::Result<()> {
     kept.add(&swap(4))?;
     kept.add(&end())?;
     let audited = run_parts(&mut lost, &mut kept, heap, &mut [Block::zero(); 56]);
-    let audits = audited.map_err(|fault| anyhow!("no table: {fault}"))?;
+    let audits = audited.map_err(|_| anyhow!("no table"))?;
     println!(rt; "the first book")?;
     tell(rt, lost.turns.as_slice(), audits.first)?;
     println!(rt; "the second book")?;

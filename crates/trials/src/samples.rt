@@ -20,7 +20,7 @@ pub const SIZES: [(u8, usize); 10] = [
     (31, 496),
 ];
 
-// The pairs of five stations in place order, the larger station first.
+// The pairs of five stations in place order, the larger station first: written out, and not the library's own.
 pub const PAIRS: [(u8, u8); 15] = [
     (0, 0),
     (1, 0),

@@ -49,17 +49,19 @@ fn fit<S: WriteStore>(book: &mut Book<S>, s: u8) -> Result<OpenTicket, Fault> {
     book.fit(s)
 }
 
-// What a ticket is told when its book was opened anew: an open one at a fill, a full one at a finish.
-fn tell<S: WriteStore>(
-    book: &mut Book<S>,
-    ticket: Ticket,
-    work: &mut [S::Block],
-) -> Result<Told, Fail> {
+// What an open ticket is told at a fill when its book was opened anew.
+fn tell_open<S: WriteStore>(book: &mut Book<S>, open: OpenTicket, work: &mut [S::Block]) -> Told {
     let _ = book.open();
-    let (next, at_fill) = fill_by(book, ticket, work);
-    match finish_by(book, next) {
+    let (ticket, fault) = fill_by(book, Ticket::Open(open), work);
+    spend(book, ticket, fault)
+}
+
+// The same of a full ticket at a finish, which is another call.
+fn tell_full<S: WriteStore>(book: &mut Book<S>, full: Ticket) -> Result<Told, Fail> {
+    let _ = book.open();
+    match finish_by(book, full) {
         Ok(()) => Err(Fail::new("not refused")),
-        Err((back, at_finish)) => Ok(spend(book, back, at_fill.or(at_finish))),
+        Err((ticket, fault)) => Ok(spend(book, ticket, fault)),
     }
 }
 
@@ -83,12 +85,12 @@ fn come_back<S: WriteStore + Drop>(
         fault: Some(Fault::TicketRefused(s)),
     };
     let open = fit(&mut book, s)?;
-    assert_eq!(rt; tell(&mut book, Ticket::Open(open), work)?, refused);
+    assert_eq!(rt; tell_open(&mut book, open, work), refused);
     let audited = audit_filling(&mut book, s);
     assert_eq!(rt; audited, Err(Fault::AbsentAtAudit(s)), "{}", s);
     let open = fit(&mut book, s)?;
     let full = fill_up(&mut book, open, work);
-    assert_eq!(rt; tell(&mut book, full, work)?, refused);
+    assert_eq!(rt; tell_full(&mut book, full)?, refused);
     Ok(())
 }
 

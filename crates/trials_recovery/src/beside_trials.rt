@@ -34,10 +34,10 @@ fn recovers(rt: &impl Abort, beside: &[u8], answer: Result<(), Fault>) -> Result
     );
     let wanted = if answer.is_err() {
         before
-    } else if beside.is_empty() {
-        Block::zero()
-    } else {
+    } else if beside.contains(&1) || beside.contains(&4) {
         block_at(&row, place(4, 1))?
+    } else {
+        Block::zero()
     };
     assert_eq!(rt; x, wanted);
     Ok(())
@@ -51,6 +51,7 @@ fn beside(rt: HostRuntime) -> Result<(), Fail> {
         ("\x01", Ok(())),
         ("\x04", Ok(())),
         ("\x01\x03", Ok(())),
+        ("\x00\x02", Ok(())),
         ("\x00\x01", Err(Fault::TooManyAbsent(3))),
         ("\x01\x04", Err(Fault::TooManyAbsent(3))),
         ("\x00\x01\x02\x04", Err(Fault::TooManyAbsent(5))),

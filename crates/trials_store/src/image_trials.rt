@@ -1,7 +1,6 @@
 // Images of five stations: what a call refuses, and which bytes it changes.
 use crate::calls::{news, put_all, refusals};
-use crate::samples::{blocks_of, image_of, sample_row};
-use code::pair_at;
+use crate::samples::{PAIRS, blocks_of, image_of, sample_row};
 use faults::Fault;
 use image::{Image, ReadImage, check_image};
 use kinds::{Block, BlockKind};
@@ -29,9 +28,8 @@ fn calls_refused(rt: HostRuntime) -> Result<(), Fail> {
 // The bytes after every pair was put: the header stays.
 fn put_bytes(before: &[u8; 970]) -> [u8; 970] {
     let mut bytes = *before;
-    let pairs = (0..15).filter_map(pair_at);
-    for (slot, pair) in blocks_of(&mut bytes).iter_mut().zip(pairs) {
-        *slot = *news(pair.larger, pair.smaller).as_bytes();
+    for (slot, (larger, smaller)) in blocks_of(&mut bytes).iter_mut().zip(PAIRS) {
+        *slot = *news(larger, smaller).as_bytes();
     }
     bytes
 }
@@ -62,9 +60,8 @@ fn put_at_every_pair(rt: HostRuntime) -> Result<(), Fail> {
 // The bytes after station s was taken out: its mark is added, and each of its blocks is filled.
 fn lost_bytes(before: &[u8; 970], s: u8) -> [u8; 970] {
     let mut bytes = *before;
-    let pairs = (0..15).filter_map(pair_at);
-    for (slot, pair) in blocks_of(&mut bytes).iter_mut().zip(pairs) {
-        if pair.larger == s || pair.smaller == s {
+    for (slot, (larger, smaller)) in blocks_of(&mut bytes).iter_mut().zip(PAIRS) {
+        if larger == s || smaller == s {
             *slot = [0xEE; 64];
         }
     }

@@ -4,6 +4,25 @@
 use kinds::Block;
 use std::array;
 
+// The pairs of five stations in place order, the larger station first: written out, and not the library's own.
+pub const PAIRS: [(u8, u8); 15] = [
+    (0, 0),
+    (1, 0),
+    (1, 1),
+    (2, 0),
+    (2, 1),
+    (2, 2),
+    (3, 0),
+    (3, 1),
+    (3, 2),
+    (3, 3),
+    (4, 0),
+    (4, 1),
+    (4, 2),
+    (4, 3),
+    (4, 4),
+];
+
 // A block of its own for each number below 251.
 pub fn sample(p: usize) -> Block {
     let byte = |i: usize| (p.wrapping_mul(37).wrapping_add(i.wrapping_mul(11)) % 251) as u8;

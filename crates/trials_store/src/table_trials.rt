@@ -1,7 +1,6 @@
 // Tables: which rows are refused, what a call refuses, and what it leaves of the row.
 use crate::calls::{Refusal, marked, news, put_all, refusals};
-use crate::samples::sample_row;
-use code::pair_at;
+use crate::samples::{PAIRS, sample_row};
 use faults::Fault;
 use kinds::{Block, BlockKind};
 use std::process::Abort;
@@ -85,9 +84,8 @@ fn use_all(rt: &impl Abort, row: &mut [Block]) -> Result<(), Fail> {
 #[test]
 fn longer_row_keeps_its_tail(rt: HostRuntime) -> Result<(), Fail> {
     let mut expected = sample_row();
-    let pairs = (0..15).filter_map(pair_at);
-    for (slot, pair) in expected.iter_mut().zip(pairs) {
-        *slot = news(pair.larger, pair.smaller);
+    for (slot, (larger, smaller)) in expected.iter_mut().zip(PAIRS) {
+        *slot = news(larger, smaller);
     }
     let mut row = sample_row();
     use_all(&rt, &mut row)?;
