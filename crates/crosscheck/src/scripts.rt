@@ -11,7 +11,8 @@ use serve::{Call, Rack, Turn, carry_on, serve};
 use std::alloc::{AllocError, Global};
 use store::WriteStore;
 
-// A list of calls, the same with the model's answers, what the model answers to an open after them, and a work area.
+// A list of calls, the same with the model's answers, what the model answers to an open after them, and a work area. The calls
+// are two lists, since one is lent to the book, which writes its answers there.
 #[derive(Drop)]
 pub struct Script {
     turns: Vec<Turn<Block>>,

@@ -14,7 +14,8 @@ fn digit(d: u8) -> u8
     if d < 10 { b'0' + d } else { b'a' + (d - 10) }
 }
 
-// A byte as two lowercase hexadecimal digits, the high one first.
+// A byte as two lowercase hexadecimal digits, the high one first. By hand: a line of output takes them as bytes, in fixed memory
+// and with no error, while `{:02x}` is written to what may fail.
 pub fn byte_digits(byte: u8) -> [u8; 2]
     ensures digits { result ≡ hex_text (byte ∷ []) }
     ensures ascii { IsAscii result }

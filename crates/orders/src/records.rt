@@ -41,7 +41,8 @@ fn read_order(body: &[u8], at: usize) -> Result<Order<&[u8]>, Fault>
     }
 }
 
-// Reads the record that the bytes begin with, where the first of them has an offset.
+// Reads the record that the bytes begin with, where the first of them has an offset. It is a number beside the bytes, as only
+// faults tell it; a struct of both would be taken apart at once.
 fn read_front(left: &[u8], at: usize) -> Result<Record<'_>, Fault>
     requires { at + length left.now < 2 ^ 64 }
     ensures { read_as result ≡ front_answer left.now at }
