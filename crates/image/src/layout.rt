@@ -30,7 +30,20 @@ impl Header {
     pub(crate) fn read(bytes: &[u8]) -> Option<Header>
         ensures { MatchOption result (length bytes.now < 10) (λ h. HeaderOf bytes.now h) }
     {
-        let [version, l0, l1, l2, l3, number, m0, m1, m2, m3, ..] = bytes else {
+        let [
+            version,
+            l0,
+            l1,
+            l2,
+            l3,
+            number,
+            m0,
+            m1,
+            m2,
+            m3,
+            _blocks @ ..,
+        ] = bytes
+        else {
             return None;
         };
         Some(Header {

@@ -14,6 +14,10 @@ pub(crate) fn kept_block<S: ReadStore>(store: &S, a: u8, b: u8) -> S::Block
     requires second { b < (S.means store.now).size }
     ensures { result ≡ of (standing S.Block.group (S.means store.now)) a b }
 {
+    // A pair with a station out is not asked for.
+    if store.is_out(a) || store.is_out(b) {
+        return S::Block::zero();
+    }
     block_or_zero(store, a, b)
 }
 
