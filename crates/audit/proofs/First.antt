@@ -13,7 +13,7 @@ first_step : (f : ℕ → Bool) (k : ℕ) → first f (suc k) ≡ after (first f
 unfolding after
 first_step f k = elim (first f k) as (λ o. elim o [ Some j ↦ Some j | None ↦ cond (f k) (Some k) None ] ≡ after o (f k) k) [ Some j ↦ refl | None ↦ refl ]
 
-first_skip : (f : ℕ → Bool) (k : ℕ) → first f k ≡ None → f k ≡ false → first f (k + 1) ≡ None
+pub first_skip : (f : ℕ → Bool) (k : ℕ) → first f k ≡ None → f k ≡ false → first f (k + 1) ≡ None
 unfolding after
 first_skip f k e p = ap (first f) (add-one k) ∙ first_step f k ∙ ap (λ o. after o (f k) k) e ∙ ap (λ t. cond t (Some k) None) p
 

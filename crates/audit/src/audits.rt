@@ -77,7 +77,10 @@ fn first_broken<S: ReadStore>(store: &S) -> Verdict
 pub fn audit_beside<S: ReadStore>(store: &S, also: Marks) -> Result<Verdict, Fault>
     ensures { Audited S.Block.group (beside (S.means store.now) also.bits) result }
 {
-    audit(&Beside { store, also })
+    match first_absent(&Beside { store, also }) {
+        Some(s) => Err(Fault::AbsentAtAudit(s)),
+        None => Ok(first_broken(store)),
+    }
 }
 
 // The audit of a store. Refused by 12 b, with the smallest station that is out.

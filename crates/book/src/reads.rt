@@ -7,9 +7,9 @@ ghost use Rattle.state.specs.Calls.{read_answer};
 ghost use Rattle.state.specs.States.{seen};
 
 use crate::books::Book;
-use audit::{Verdict, audit};
+use audit::{Verdict, audit_beside};
 use faults::Fault;
-use recovery::recover;
+use recovery::recover_beside;
 use store::{ReadStore, WriteStore};
 
 impl<S: WriteStore> Book<S> {
@@ -27,7 +27,8 @@ impl<S: WriteStore> Book<S> {
         ensures into { is_ok result ≡ false → into.new ≡ into.old }
         ensures work { is_ok result ≡ false → work.new ≡ work.old }
     {
-        recover(&self.standing(), a, b, work, into)
+        let standing = self.standing();
+        recover_beside(standing.store, standing.also, a, b, work, into)
     }
 
     // Recovers a data pair into the caller's place. Refused by 3 b, 4 s, 5 b and 9 b; a refusal changes nothing.
@@ -51,6 +52,7 @@ impl<S: WriteStore> Book<S> {
     pub fn audit(&self) -> Result<Verdict, Fault>
         ensures { Audited S.Block.group (seen (state_of S.means self.now)) result }
     {
-        audit(&self.standing())
+        let standing = self.standing();
+        audit_beside(standing.store, standing.also)
     }
 }

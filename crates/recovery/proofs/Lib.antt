@@ -1,3 +1,4 @@
+mod Alone
 pub mod Assembled
 pub mod Counted
 pub mod Impulses

@@ -4,6 +4,7 @@
 pub mod absent;
 mod admits;
 mod areas;
+mod noted;
 pub mod patterns;
 pub mod rebuilds;
 pub mod recovery;

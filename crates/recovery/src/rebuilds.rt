@@ -4,9 +4,10 @@ ghost use Rattle.recovery.specs.Recovery.{Two, Rows, RebuiltTwo};
 
 use crate::absent::two_absent;
 use crate::areas::admit_area;
+use crate::noted::Noted;
 use crate::sums::{diagonal_sum, neighbourhood_sum};
 use crate::walks::Walk;
-use code::Pair;
+use code::{Marks, Pair};
 use faults::Fault;
 use kinds::BlockKind;
 use store::ReadStore;
@@ -77,9 +78,10 @@ pub fn rebuild_two<S: ReadStore>(store: &S, work: &mut [S::Block]) -> Result<Opt
     ensures { RebuiltTwo S.Block.group (S.means store.now) work.old result work.new }
 {
     admit_area(store.size(), work.len())?;
-    let two = two_absent(store);
+    let noted = Noted::of(store, Marks::none());
+    let two = two_absent(&noted);
     if let Some(pair) = two {
-        rebuild(store, pair, work);
+        rebuild(&noted, pair, work);
     }
     Ok(two)
 }

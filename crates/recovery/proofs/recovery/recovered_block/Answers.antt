@@ -9,7 +9,7 @@ pub returns-in-Some : goal.returns-in-Some
 returns-in-Some g c =
     let m = g.S.ReadStore.means c.args.store.now in
     let G = g.S.Block.BlockKind.group in
-    let lost : (m.out c.args.a || m.out c.args.b) ≡ true = grind (arith, nat_tests, c.if-not-is_lost.ensures) in
+    let lost : (m.out c.args.a || m.out c.args.b) ≡ true = grind (arith, nat_tests, c.requires.lost) in
     let two = c.in-Some.two in
     two_recovered G m c.args.a c.args.b c.requires.first c.requires.second c.block.result lost two
     c.in-Some.ensures.0 (take m.size c.rebuild.new.work) (drop m.size c.rebuild.new.work) c.rebuild.ensures
@@ -20,7 +20,7 @@ pub returns-in-None : goal.returns-in-None
 returns-in-None g c =
     let m = g.S.ReadStore.means c.args.store.now in
     let G = g.S.Block.BlockKind.group in
-    let lost : (m.out c.args.a || m.out c.args.b) ≡ true = grind (arith, nat_tests, c.if-not-is_lost.ensures) in
+    let lost : (m.out c.args.a || m.out c.args.b) ≡ true = grind (arith, nat_tests, c.requires.lost) in
     let e : c.number-n.result ≡ m.size = c.number-n.ensures.same ∙ c.size-size.ensures in
     one_recovered G m c.args.a c.args.b c.requires.first c.requires.second c.diagonal_sum.result lost
     c.in-None.ensures

@@ -11,8 +11,8 @@ pub returns : goal.returns
 returns g c =
     let G = g.S.Block.BlockKind.group in
     let st = state_of g.S.ReadStore.means c.args.self.now in
-    let m' = beside (g.S.ReadStore.means c.standing.result.store.now) c.standing.result.also.bits in
-    let h = c.standing.ensures in
-    audited_cong G (record { size = size_of st; out = m'.out; block = st.store.block }) (absent st) c.audit.result
+    let m' = beside (g.S.ReadStore.means c.standing-standing.result.store.now) c.standing-standing.result.also.bits in
+    let h = c.standing-standing.ensures in
+    audited_cong G (record { size = size_of st; out = m'.out; block = st.store.block }) (absent st) c.audit_beside.result
     (first_cong (absent st) m'.out (size_of st) (λ s l. sym (h.out s l)))
-    (subst₂ (λ n f. Audited G (record { size = n; out = m'.out; block = f }) c.audit.result) h.size h.block c.audit.ensures)
+    (subst₂ (λ n f. Audited G (record { size = n; out = m'.out; block = f }) c.audit_beside.result) h.size h.block c.audit_beside.ensures)
