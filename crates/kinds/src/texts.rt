@@ -3,7 +3,7 @@ ghost use Rattle.std.specs.Prelude.{◌≡◌, ◌<◌, [], ◌∷◌, Some, IsA
 ghost use Rattle.kinds.specs.Texts.{hex_digit, hex_text};
 
 use crate::blocks::Block;
-use std::{array, fmt, str};
+use std::{fmt, str};
 
 // The digit of a number below 16.
 fn digit(d: u8) -> u8
@@ -29,8 +29,13 @@ impl Block {
         ensures digits { result ≡ hex_text self.now.bytes }
         ensures ascii { IsAscii result }
     {
-        let bytes = self.as_bytes();
-        array::from_fn(|i| byte_digits(bytes[i / 2])[i % 2])
+        let mut digits = [0; 128];
+        for (i, byte) in self.as_bytes().iter().enumerate() {
+            let [high, low] = byte_digits(*byte);
+            digits[2 * i] = high;
+            digits[2 * i + 1] = low;
+        }
+        digits
     }
 }
 

@@ -1,5 +1,5 @@
 // Lines of output: what is answered to an order, as text.
-ghost use Rattle.std.specs.Prelude.{◌≡◌, length, is_ok, if◌then◌else◌};
+ghost use Rattle.std.specs.Prelude.{◌≡◌, ◌<◌, ◌≤◌, [], ◌∷◌, ◌++◌, length, decimal, is_ok, if◌then◌else◌};
 ghost use Rattle.orders.specs.Lines.{laid, block_text, reply_text, line, line_answer};
 ghost use Rattle.audit.specs.Audits.{verdict_text};
 ghost use Rattle.faults.specs.Refusals.{refusal_text};
@@ -33,35 +33,59 @@ const TEXT: usize = LONGEST - 1;
 // to its end, and a line in an area that is long enough is not refused.
 type Line = ArrayString<TEXT>;
 
-fn block_line(block: Block) -> Line
-    ensures text { result.bytes ≡ block_text block }
+// Lays a text with a line end at the front of an area, and answers how many bytes these are.
+fn lay_text(text: &[u8], into: &mut [u8]) -> usize
+    requires { length text.now < length into.old }
+    ensures answer { result ≡ length (text.now ++ (10 ∷ [])) }
+    ensures into { into.new ≡ laid (text.now ++ (10 ∷ [])) into.old }
+{
+    let len = text.len();
+    into[..len].copy_from_slice(text);
+    into[len] = b'\n';
+    len + 1
+}
+
+fn lay_block(block: &Block, into: &mut [u8]) -> usize
+    requires { 135 ≤ length into.old }
+    ensures answer { result ≡ length (block_text block.now ++ (10 ∷ [])) }
+    ensures into { into.new ≡ laid (block_text block.now ++ (10 ∷ [])) into.old }
 {
     let mut line = Line::new();
     line.push_str("block ");
     line.push_str(str::from_utf8(&block.hex_digits()).unwrap());
-    line
+    lay_text(line.as_bytes(), into)
 }
 
-fn verdict_line(verdict: Verdict) -> Line
-    ensures text { result.bytes ≡ verdict_text verdict }
+// The words of a broken rule, with its number.
+fn lay_numbered(words: &str, number: u8, into: &mut [u8]) -> usize
+    requires words { length words.now ≤ 9 }
+    requires long { 135 ≤ length into.old }
+    ensures answer { result ≡ length ((words.now ++ decimal number) ++ (10 ∷ [])) }
+    ensures into { into.new ≡ laid ((words.now ++ decimal number) ++ (10 ∷ [])) into.old }
 {
     let mut line = Line::new();
-    match verdict {
-        Verdict::Sound => line.push_str("sound"),
-        Verdict::BrokenNeighbourhood(h) => {
-            line.push_str("broken S ");
-            line.push_str(Buffer::new().format(h));
-        }
-        Verdict::BrokenDiagonal(m) => {
-            line.push_str("broken D ");
-            line.push_str(Buffer::new().format(m));
-        }
-    }
-    line
+    line.push_str(words);
+    line.push_str(Buffer::new().format(number));
+    lay_text(line.as_bytes(), into)
 }
 
-fn refusal_line(fault: Fault) -> Line
-    ensures text { result.bytes ≡ refusal_text fault }
+// A text that is fixed goes into the area as it is, and grows in no line.
+fn lay_verdict(verdict: Verdict, into: &mut [u8]) -> usize
+    requires { 135 ≤ length into.old }
+    ensures answer { result ≡ length (verdict_text verdict ++ (10 ∷ [])) }
+    ensures into { into.new ≡ laid (verdict_text verdict ++ (10 ∷ [])) into.old }
+{
+    match verdict {
+        Verdict::Sound => lay_text(b"sound", into),
+        Verdict::BrokenNeighbourhood(h) => lay_numbered("broken S ", h, into),
+        Verdict::BrokenDiagonal(m) => lay_numbered("broken D ", m, into),
+    }
+}
+
+fn lay_refusal(fault: Fault, into: &mut [u8]) -> usize
+    requires { 135 ≤ length into.old }
+    ensures answer { result ≡ length (refusal_text fault ++ (10 ∷ [])) }
+    ensures into { into.new ≡ laid (refusal_text fault ++ (10 ∷ [])) into.old }
 {
     let mut line = Line::new();
     line.push_str("no ");
@@ -70,17 +94,19 @@ fn refusal_line(fault: Fault) -> Line
     line.push(fault.layer().letter());
     line.push(' ');
     line.push_str(Buffer::new().format(fault.place()));
-    line
+    lay_text(line.as_bytes(), into)
 }
 
-fn reply_line(reply: Reply<Block>) -> Line
-    ensures text { result.bytes ≡ reply_text reply }
+fn lay_reply(reply: &Reply<Block>, into: &mut [u8]) -> usize
+    requires { 135 ≤ length into.old }
+    ensures answer { result ≡ length (line reply.now) }
+    ensures into { into.new ≡ laid (line reply.now) into.old }
 {
     match reply {
-        Reply::Block(block) => block_line(block),
-        Reply::Done => Line::from("done").unwrap(),
-        Reply::Found(verdict) => verdict_line(verdict),
-        Reply::Refused(fault) => refusal_line(fault),
+        Reply::Block(block) => lay_block(block, into),
+        Reply::Done => lay_text(b"done", into),
+        Reply::Found(verdict) => lay_verdict(*verdict, into),
+        Reply::Refused(fault) => lay_refusal(*fault, into),
     }
 }
 
@@ -93,9 +119,5 @@ pub fn lay_line(reply: &Reply<Block>, into: &mut [u8]) -> Result<usize, Fault>
     if into.len() < LONGEST {
         return Err(Fault::AreaTooShort(into.len()));
     }
-    let line = reply_line(*reply);
-    let len = line.len();
-    into[..len].copy_from_slice(line.as_bytes());
-    into[len] = b'\n';
-    Ok(len + 1)
+    Ok(lay_reply(reply, into))
 }

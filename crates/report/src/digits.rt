@@ -4,16 +4,16 @@ ghost use Rattle.kinds.specs.Texts.{hex_text as digits_of};
 
 use kinds::byte_digits;
 use std::alloc::{AllocError, Global};
-use std::str;
 
 // Each byte as two digits, the higher first.
-#[tactic(auto, using(crate::proofs::Hexes::hex_more))]
 pub fn hex_text(heap: Global, bytes: &[u8]) -> Result<String, AllocError>
     ensures { IfOk result (λ t. string_bytes t ≡ digits_of bytes.now) }
 {
     let mut text = String::new(heap);
     for byte in bytes {
-        text.push_str(str::from_utf8(&byte_digits(*byte)).unwrap())?;
+        let [high, low] = byte_digits(*byte);
+        text.push(char::from(high))?;
+        text.push(char::from(low))?;
     }
     Ok(text)
 }

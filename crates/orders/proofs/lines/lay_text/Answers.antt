@@ -1,6 +1,6 @@
 use Rattle.std.proofs.Common.{◌≡◌, ℕ, ◌<◌, List, [], ◌∷◌, ◌++◌, length, drop, set, refl, ap, rules, arith}
 use Rattle.orders.specs.Lines.{laid}
-use Rattle.orders.proofs.lines.lay_line.Goals as goal
+use Rattle.orders.proofs.lines.lay_text.Goals as goal
 
 -- a byte laid after a text
 laid_after : (text old : List ℕ) (k : ℕ) → length text < length old → set (text ++ drop (length text) old) (length text) k ≡ laid (text ++ k ∷ []) old
