@@ -187,8 +187,10 @@ pub fn carry_on<S: WriteStore>(
     ensures promise { CarriesOn S.Block.group (length work.old) (state_of S.means book.old) turns.new (state_of S.means book.new) }
     ensures told { Tells S.Block.group (length work.old) (state_of S.means book.old) turns.new }
 {
-    for turn in turns.iter_mut() {
-        turn.answer = make_call(book, turn.call, work, rack);
+    // By place: so an edit that misses the first call is refused for what it leaves out, and not for its form.
+    for i in 0..turns.len() {
+        let answer = make_call(book, turns[i].call, work, rack);
+        turns[i].answer = answer;
     }
 }
 
