@@ -77,7 +77,7 @@ module _ {B : Type 0} (G : Group B) where
     same_out p q e h = sym (either_out m.out p q) ∙ ap₂ (λ x y. m.out x || m.out y) e h
 
     -- the pair was refused
-    added_not : is_ok (get_answer m a b) ≡ false → Added G m (spot none d a b) m
+    pub added_not : is_ok (get_answer m a b) ≡ false → Added G m (spot none d a b) m
     added_not ko = record { size = refl; out = λ s _. refl; blocks = at }
       where
         at : (p q : ℕ) → p < m.size → q < m.size → of m.block p q ≡ cond (m.out p || m.out q) (of m.block p q) (of m.block p q ⊕ of (spot none d a b) p q)

@@ -58,7 +58,7 @@ module _ {B : Type 0} (G : Group B) (n a b : ℕ) (d : B) (inner : max a b + 2 <
       (λ p q lp lq _. data_at p q (omega arith) (omega arith) ∙ image_cond G d (eqb (max p q) (max a b) && eqb (min p q) (min a b)) true false)
 
   -- a data pair with the check pairs of its pattern
-  spread_rows : (m m₁ m₂ m₃ : Meaning B) → m.size ≡ n → n % 2 ≡ 1
+  pub spread_rows : (m m₁ m₂ m₃ : Meaning B) → m.size ≡ n → n % 2 ≡ 1
       → Added G m (row_part G x.smaller (x.smaller + 1) first) m₁ → Added G m₁ (row_part G x.larger (x.larger + 1) second) m₂ → Added G m₂ (spot none d a b) m₃
       → (word : Blocks Bool) × (Touched n a b word × Added G m (λ u v. cond (word u v) d none) m₃)
   spread_rows m m₁ m₂ m₃ e odd h₁ h₂ h₃ =

@@ -1,3 +1,4 @@
 pub mod Gets
 pub mod TableRows
+pub mod Afters
 pub mod Nexts

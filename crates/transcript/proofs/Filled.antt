@@ -17,7 +17,7 @@ use Rattle.serve.proofs.Keeps.{keep_fill}
 use Rattle.transcript.specs.Replaces.{CanFillUp, FilledTo, FilledUp}
 
 -- which ticket came out
-full_at : (n next t : ℕ) (f : TicketOf 1) → Full f ≡ ticket_after n next t → (n ≤ next) × (f.station ≡ t)
+pub full_at : (n next t : ℕ) (f : TicketOf 1) → Full f ≡ ticket_after n next t → (n ≤ next) × (f.station ≡ t)
 full_at n next t f e = go (ltb next n) refl e
   where
     go : (b : Bool) → ltb next n ≡ b → Full f ≡ cond b (Open (record { station = t })) (Full (record { station = t })) → (n ≤ next) × (f.station ≡ t)
@@ -61,7 +61,7 @@ module _ {B : Type 0} (G : Group B) (st : State B) (s len : ℕ) (can : CanFillU
     few_at : too_many st₁ ≡ false
     few_at = ap (λ c. ltb 2 c) same_count ∙ can.few
 
-    one_more : (st₂ : State B) → k < size_of st → (Sound st₁ → FilledNext G st₁ st₁.filling st₂.store) → st₂.filling ≡ stepped (size_of st₁) st₁.filling → FilledTo G st s (k + 1) st₂
+    pub one_more : (st₂ : State B) → k < size_of st → (Sound st₁ → FilledNext G st₁ st₁.filling st₂.store) → st₂.filling ≡ stepped (size_of st₁) st₁.filling → FilledTo G st s (k + 1) st₂
     one_more st₂ l put e =
         let l₁ : k < size_of st₁ = omega (arith, F.size) in
         let next : FilledNext G (state st₁.store (filling_at s k)) (filling_at s k) st₂.store = subst (λ f. FilledNext G (state st₁.store f) f st₂.store) F.filling (put sound_at) in
