@@ -1,7 +1,7 @@
 // The audit of a store: the first broken rule, neighbourhoods before diagonals, each in rising order.
 ghost use Rattle.std.specs.Prelude.{◌≡◌, Some};
 ghost use Rattle.audit.specs.Audits.{Audited, Found, verdict_text};
-ghost use Rattle.store.specs.Meaning.{AllIn, first};
+ghost use Rattle.store.specs.Meaning.{AllIn, absent_of, first, is_out_of};
 ghost use Rattle.store.specs.Standing.{beside};
 
 use code::Marks;
@@ -35,6 +35,24 @@ pub fn first_absent<S: ReadStore>(store: &S) -> Option<u8>
     ensures { result ≡ first (S.means store.now).out (S.means store.now).size }
 {
     next_out(store, 0)
+}
+
+// The same where the stations of `also` count as absent too: where a table's type is named, `Beside` of it cannot stand as a
+// type.
+pub fn first_absent_beside<S: ReadStore>(store: &S, also: Marks) -> Option<u8>
+    ensures { result ≡ first (absent_of (S.means store.now) also.bits) (S.means store.now).size }
+{
+    first_absent(&Beside { store, also })
+}
+
+// Whether a station is out or one of `also`; a number that is no station's is not absent.
+pub fn is_absent<S: ReadStore>(store: &S, also: Marks, s: u8) -> bool
+    ensures { result ≡ is_out_of (beside (S.means store.now) also.bits) s }
+{
+    match store.is_in(s) {
+        Ok(inside) => !inside || also.has(s),
+        Err(_) => false,
+    }
 }
 
 // The audit of a store with no station out.
@@ -77,7 +95,7 @@ fn first_broken<S: ReadStore>(store: &S) -> Verdict
 pub fn audit_beside<S: ReadStore>(store: &S, also: Marks) -> Result<Verdict, Fault>
     ensures { Audited S.Block.group (beside (S.means store.now) also.bits) result }
 {
-    match first_absent(&Beside { store, also }) {
+    match first_absent_beside(store, also) {
         Some(s) => Err(Fault::AbsentAtAudit(s)),
         None => Ok(first_broken(store)),
     }

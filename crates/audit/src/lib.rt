@@ -3,4 +3,4 @@
 
 pub mod audits;
 
-pub use audits::{Verdict, audit, audit_beside, first_absent};
+pub use audits::{Verdict, audit, audit_beside, first_absent, first_absent_beside, is_absent};

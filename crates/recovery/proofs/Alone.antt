@@ -1,5 +1,6 @@
 -- A store beside which further stations are absent, or none.
-use Rattle.std.proofs.Common.{◌≡◌, ℕ, min, max, Bool, true, false, ◌&&◌, ◌||◌, ◌⊎◌, ltb, Ok, sym, refl, ap, ◌∙◌, inl, inr, arith}
+use Rattle.std.proofs.Common.{◌≡◌, ℕ, min, max, Bool, true, false, ◌&&◌, ◌||◌, ◌⊎◌, ltb, Ok, sym, ap, ◌∙◌, inl, inr, arith}
+use Rattle.std.proofs.Math.Bool.{or-false}
 use Rattle.std.proofs.lemmas.Bool.{cases_lt}
 use Rattle.std.proofs.lemmas.Bool.Decides.{nat_tests}
 use Rattle.code.specs.Marks.{marked}
@@ -8,15 +9,11 @@ use Rattle.recovery.specs.Recovery.{AbsentMarks}
 use Rattle.store.specs.Meaning.{Meaning, get_answer}
 use Rattle.store.specs.Standing.{beside}
 
-or_false : (t : Bool) → (t || false) ≡ t
-or_false true = refl
-or_false false = refl
-
 -- it means what it means
 pub alone : {B : Type 0} (m : Meaning B) (bits : ℕ) → ((s : ℕ) → marked bits s ≡ false) → beside m bits ≡ m
 alone m bits h i = record {
   size = m.size;
-  out = λ s. (ap (λ t. m.out s || t) (h s) ∙ or_false (m.out s)) i;
+  out = λ s. (ap (λ t. m.out s || t) (h s) ∙ or-false (m.out s)) i;
   block = m.block;
 }
 

@@ -1,10 +1,11 @@
 // The absent stations of a store: those that are out.
 ghost use Rattle.std.specs.Prelude.{◌≡◌, ◌≢◌, MatchOption};
 ghost use Rattle.recovery.specs.Recovery.{AbsentMarks, absent_in, few_answer, Two};
+ghost use Rattle.store.specs.Standing.{beside};
 
 use code::{Marks, Pair};
 use faults::Fault;
-use store::{ReadStore, next_out};
+use store::{Beside, ReadStore, next_out};
 
 // Their marks, and no other's.
 pub fn absent_marks<S: ReadStore>(store: &S) -> Marks
@@ -18,6 +19,13 @@ pub fn absent_marks<S: ReadStore>(store: &S) -> Marks
     absent
 }
 
+// The same where the stations of `also` are absent too: where a table's type is named, `Beside` of it cannot stand as a type.
+pub fn absent_marks_beside<S: ReadStore>(store: &S, also: Marks) -> Marks
+    ensures { AbsentMarks (beside (S.means store.now) also.bits) result.bits }
+{
+    absent_marks(&Beside { store, also })
+}
+
 // How many stations are absent.
 pub fn count_absent<S: ReadStore>(store: &S) -> u8
     ensures { result ≡ absent_in (S.means store.now) }
@@ -25,6 +33,13 @@ pub fn count_absent<S: ReadStore>(store: &S) -> u8
     (0..store.size().number())
         .filter(|&s| store.is_out(s))
         .count() as u8
+}
+
+// The same where the stations of `also` are absent too.
+pub fn count_absent_beside<S: ReadStore>(store: &S, also: Marks) -> u8
+    ensures { result ≡ absent_in (beside (S.means store.now) also.bits) }
+{
+    count_absent(&Beside { store, also })
 }
 
 // Refused by 9 b if three or more stations are absent.

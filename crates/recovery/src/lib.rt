@@ -12,9 +12,11 @@ mod rows;
 mod sums;
 mod walks;
 
-pub use absent::{absent_marks, count_absent, few_absent};
+pub use absent::{
+    absent_marks, absent_marks_beside, count_absent, count_absent_beside, few_absent,
+};
 pub use admits::admit_data;
 pub use areas::{admit_area, work_length};
 pub use patterns::{Impulse, pattern};
-pub use rebuilds::rebuild_two;
+pub use rebuilds::{rebuild_two, rebuild_two_beside};
 pub use recovery::{recover, recover_beside};

@@ -1,6 +1,7 @@
 // Two absent stations rebuilt in one pass: the rows of both, in a work area.
 ghost use Rattle.std.specs.Prelude.{◌≡◌, ℕ, ◌*◌, ◌<◌, ◌≤◌, length, take, drop, slice_index_or};
 ghost use Rattle.recovery.specs.Recovery.{Two, Rows, RebuiltTwo};
+ghost use Rattle.store.specs.Standing.{beside};
 
 use crate::absent::two_absent;
 use crate::areas::admit_area;
@@ -72,16 +73,27 @@ pub(crate) fn rebuild<S: ReadStore>(store: &S, pair: Pair, work: &mut [S::Block]
     rebuild_rows(store, pair, first, second, near, across, drift);
 }
 
-// If just two stations are absent, the pair of them, and their rows at the start of the work area, the smaller first.
-// Refused by 3 b if the area is under 8 n blocks. Where it is refused or gives none, the area is as it was.
-pub fn rebuild_two<S: ReadStore>(store: &S, work: &mut [S::Block]) -> Result<Option<Pair>, Fault>
-    ensures { RebuiltTwo S.Block.group (S.means store.now) work.old result work.new }
+// If just two stations are absent, out or of `also`, the pair of them, and their rows at the start of the work area, the
+// smaller first. Refused by 3 b if the area is under 8 n blocks. Where it is refused or gives none, the area is as it was.
+pub fn rebuild_two_beside<S: ReadStore>(
+    store: &S,
+    also: Marks,
+    work: &mut [S::Block],
+) -> Result<Option<Pair>, Fault>
+    ensures { RebuiltTwo S.Block.group (beside (S.means store.now) also.bits) work.old result work.new }
 {
     admit_area(store.size(), work.len())?;
-    let noted = Noted::of(store, Marks::none());
+    let noted = Noted::of(store, also);
     let two = two_absent(&noted);
     if let Some(pair) = two {
         rebuild(&noted, pair, work);
     }
     Ok(two)
+}
+
+// The same with no other station absent than those that are out.
+pub fn rebuild_two<S: ReadStore>(store: &S, work: &mut [S::Block]) -> Result<Option<Pair>, Fault>
+    ensures { RebuiltTwo S.Block.group (S.means store.now) work.old result work.new }
+{
+    rebuild_two_beside(store, Marks::none(), work)
 }

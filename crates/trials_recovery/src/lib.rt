@@ -11,6 +11,8 @@ mod lawful;
 #[cfg(test)]
 mod loss_trials;
 #[cfg(test)]
+mod named_trials;
+#[cfg(test)]
 mod pattern_trials;
 #[cfg(test)]
 mod recover_trials;
