@@ -62,12 +62,12 @@ impl<'a> ReadImage<'a> {
             return Err(Fault::AreaTooShort(second.len()));
         }
         let roll = self.roll();
-        let (a_in, b_in) = (roll.is_in(a)?, roll.is_in(b)?);
-        if a_in && b_in {
-            Ok(self.pair(a, b))
-        } else {
-            Ok(&second[..64])
+        roll.size.admit(a)?;
+        roll.size.admit(b)?;
+        if roll.out.has(a) || roll.out.has(b) {
+            return Ok(&second[..64]);
         }
+        Ok(self.pair(a, b))
     }
 }
 
