@@ -1,5 +1,5 @@
 -- What writes to an image's bytes do to what they mean.
-use Rattle.std.proofs.Common.{◌≡◌, ℕ, ◌+◌, ◌*◌, ◌/◌, ◌%◌, ◌^◌, ◌<◌, ◌≤◌, min, max, true, false, ◌≢◌, ◌⊎◌, List, length, get_or, replicate, sym, ap, ◌∙◌, subst, subst₂, inl, inr, mod-eq_of_lt, arith, lit<}
+use Rattle.std.proofs.Common.{◌≡◌, ℕ, ◌+◌, ◌*◌, ◌/◌, ◌%◌, ◌^◌, ◌<◌, ◌≤◌, min, max, Bool, true, false, ◌≢◌, ◌⊎◌, List, length, get_or, replicate, sym, refl, ap, ◌∙◌, subst, subst₂, inl, inr, mod-eq_of_lt, arith, lit<}
 use Rattle.std.proofs.lemmas.Nat.{shr-shr, div-add-mod', div_below}
 use Rattle.std.proofs.lemmas.List.{get_or-replicate}
 use Rattle.std.proofs.lemmas.Bool.{cases_eq, cases_lt}
@@ -7,7 +7,9 @@ use Rattle.kinds.specs.Bytes.{same_block}
 use Rattle.code.specs.Marks.{marked, Marked}
 use Rattle.code.specs.Places.{pair_place}
 use Rattle.kinds.specs.declared.blocks.Block.{Block}
+use Rattle.code.proofs.Primes.{listed_prime}
 use Rattle.code.proofs.Table.{place_only}
+use Rattle.code.specs.declared.marks.Marks.{Marks}
 use Rattle.image.specs.Images.{image_size, image_marks, image_meaning, block_offset, Overwritten, Filled, TakenOut, BroughtIn, IsImage, be_bytes}
 use Rattle.store.specs.Meaning.{Written, Remarked}
 use Rattle.kinds.specs.Parts.{part, block_at}
@@ -50,6 +52,15 @@ marks_laid bs bs' v l o =
     let c : v / 16777216 * 256 + v / 65536 % 256 ≡ v / 65536 = ap (λ k. k * 256 + v / 65536 % 256) (sym (shr-shr v 16 8)) ∙ div-add-mod' (v / 65536) 256 in
     let d : v / 16777216 % 256 ≡ v / 16777216 = mod-eq_of_lt (div_below v 16777216 256 (lit< tt) l) in
     omega (arith, o.inside 0 (lit< tt), o.inside 1 (lit< tt), o.inside 2 (lit< tt), o.inside 3 (lit< tt))
+
+-- a roll of which one station's mark is turned
+pub turned_roll : (r : Roll) (s : ℕ) (b : Bool) (out : Marks) → s < r.size.number → (s < 32 → Marked r.out.bits s b out.bits) → ((n : ℕ) → s < n → r.out.bits / 2 ^ n ≡ 0 → out.bits / 2 ^ n ≡ 0) → Turned r s b (record { size = r.size; out = out })
+turned_roll r s b out l w low = record {
+  here = l;
+  size = refl;
+  out = w (omega (arith, (listed_prime r.size.number r.size.allowed).1));
+  low = low r.size.number l;
+}
 
 -- marks written after the blocks of s were filled
 pub taken_out : (bs bs₁ bs₂ : List ℕ) (r r' : Roll) (s : ℕ) → IsImage bs → r.size.number ≡ image_size bs → r.out.bits ≡ image_marks bs → Turned r s true r' → Filled bs s r'.size.number bs₁ → Overwritten bs₁ 6 (be_bytes r'.out.bits) bs₂ → TakenOut bs s bs₂

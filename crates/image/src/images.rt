@@ -108,10 +108,10 @@ impl WriteStore for Image<'_> {
         ensures bytes { TakeImage self.old.bytes.now s result self.new.bytes.now }
         ensures lent { self.new.bytes.ghost_name ≡ self.old.bytes.ghost_name }
     {
-        let mut roll = self.roll();
-        roll.take_out(s)?;
+        let roll = self.roll();
+        roll.admit_out(s)?;
         fill_lost(self.bytes, roll.size.number(), s);
-        lay_marks(self.bytes, roll.out);
+        lay_marks(self.bytes, roll.out.with(s, true));
         Ok(())
     }
 
@@ -120,9 +120,9 @@ impl WriteStore for Image<'_> {
         ensures bytes { BringImage self.old.bytes.now s result self.new.bytes.now }
         ensures lent { self.new.bytes.ghost_name ≡ self.old.bytes.ghost_name }
     {
-        let mut roll = self.roll();
-        roll.bring_in(s)?;
-        lay_marks(self.bytes, roll.out);
+        let roll = self.roll();
+        roll.admit_in(s)?;
+        lay_marks(self.bytes, roll.out.with(s, false));
         Ok(())
     }
 }

@@ -21,5 +21,5 @@ returns c =
     same_block c.from.result (xor_block x y) (c.from.ensures ∙ ext_get_or 0 c.from_fn.result (xors x.bytes y.bytes) (made.long ∙ sym (length_xors x.bytes y.bytes same ∙ x.long))
     (λ k l.
     let m : k < 64 = omega (arith, made.long) in
-    let at = made_each _ (λ i v. v ≡ bit_xor (get_or x.bytes i 0) (get_or y.bytes i 0)) _ (λ i r f' w. search rules) c.from_fn.result 0 64 made.each k k 0 m (zero-add k) in
+    let at = made_each _ (λ i v. v ≡ bit_xor (get_or x.bytes i 0) (get_or y.bytes i 0)) _ 64 (λ i r f' b w. search (rules, b)) c.from_fn.result 0 64 (omega arith) made.each k k 0 m (zero-add k) in
     at ∙ sym (get_or_xors x.bytes y.bytes k same (omega (arith, x.long)))))
