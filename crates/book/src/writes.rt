@@ -1,9 +1,12 @@
 // Writes: a data pair takes a new block, and the check pairs of its pattern follow.
-ghost use Rattle.std.specs.Prelude.{◌≡◌, ◌+◌, ◌*◌, ◌<◌, ◌≤◌, max, false, length, is_ok};
+ghost use Rattle.std.specs.Prelude.{◌≡◌, ◌+◌, ◌*◌, ◌<◌, ◌≤◌, max, false, length, is_ok, Option};
 ghost use Rattle.book.specs.Books.{state_of};
 ghost use Rattle.recovery.specs.Patterns.{spot};
+ghost use Rattle.recovery.specs.Recovery.{RecoveredFrom};
 ghost use Rattle.state.specs.Additions.{row_part, Added, Spread};
 ghost use Rattle.state.specs.Calls.{write_answer, Wrote};
+ghost use Rattle.state.specs.States.{seen, state};
+ghost use Rattle.state.specs.declared.records.Filling.{Filling};
 ghost use Rattle.store.specs.Meaning.{After};
 
 use crate::books::Book;
@@ -56,8 +59,24 @@ fn spread<S: WriteStore>(store: &mut S, a: u8, b: u8, d: S::Block, work: &mut [S
     add_to(store, a, b, d);
 }
 
+// Puts x in place of the old block of a data pair: adds what the two differ by.
+fn write_pair<S: WriteStore>(
+    store: &mut S,
+    a: u8,
+    b: u8,
+    old: S::Block,
+    x: S::Block,
+    work: &mut [S::Block],
+)
+    requires inner { max a b + 2 < (S.means store.old).size }
+    requires long { 8 * (S.means store.old).size ≤ length work.old }
+    ensures { (f : Option Filling) → RecoveredFrom S.Block.group (seen (state (S.means store.old) f)) a b old → Wrote S.Block.group (state (S.means store.old) f) a b x (state (S.means store.new) f) }
+{
+    spread(store, a, b, x.add(old), work);
+}
+
 impl<S: WriteStore> Book<S> {
-    // Writes a data pair: recovers its old block, and adds what the new one differs by. Refused by 3 b, 4 s, 5 b and 9 b; a
+    // Writes a data pair: recovers its old block, and puts the new one in its place. Refused by 3 b, 4 s, 5 b and 9 b; a
     // refusal changes nothing.
     pub fn write(&mut self, a: u8, b: u8, x: S::Block, work: &mut [S::Block]) -> Result<(), Fault>
         ensures answer { result ≡ write_answer (state_of S.means self.old) (length work.old) a b }
@@ -68,7 +87,7 @@ impl<S: WriteStore> Book<S> {
         self.may_write(work.len(), a, b)?;
         let mut old = S::Block::zero();
         self.recover(a, b, work, &mut old)?;
-        spread(&mut self.store, a, b, x.add(old), work);
+        write_pair(&mut self.store, a, b, old, x, work);
         Ok(())
     }
 }
