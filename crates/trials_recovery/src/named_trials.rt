@@ -1,7 +1,7 @@
 // Calls with a further set of absent stations over a table whose type is named: `Beside` of it cannot stand as a type there.
 use crate::lawful::{FIVE, lawful_row};
 use audit::{first_absent_beside, is_absent};
-use code::Marks;
+use code::{Marks, Pair};
 use kinds::{Block, BlockKind};
 use recovery::{absent_marks_beside, count_absent_beside, rebuild_two_beside};
 use std::process::Abort;
@@ -22,6 +22,15 @@ fn named_table(rt: HostRuntime) -> Result<(), Fail> {
         assert_eq!(rt; is_absent(&table, also, s), absent);
     }
     let work = &mut [Block::zero(); 40];
-    assert!(rt; rebuild_two_beside(&table, also, work)?.is_some());
+    let pair = Pair {
+        larger: 4,
+        smaller: 3,
+    };
+    assert_eq!(rt; rebuild_two_beside(&table, also, work)?, Some(pair));
+    // The rows of 3 and 4, each with the places of its pairs.
+    let kept = lawful_row(&FIVE);
+    for (k, p) in [6, 7, 8, 9, 13, 10, 11, 12, 13, 14].into_iter().enumerate() {
+        assert_eq!(rt; work.get(k).copied(), kept.get(p).copied());
+    }
     Ok(())
 }
